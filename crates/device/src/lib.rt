@@ -1,8 +1,11 @@
 // What all parts of the log have in common: why a call is declined, by whom and where.
 ghost use mathlib.Core.Path.{_≡_};
 ghost use Rattle.std.specs.declared.option.Option.the-variants.{Some};
+ghost use Rattle.device.specs.declared.Failure.the-variants.{Declined, NoMemory};
 ghost use Rattle.device.specs.Numbers.{number-of, layer-of};
 ghost use Rattle.device.specs.Phrases.{phrase-of, shown-fault};
+use std::alloc::AllocError;
+use std::alloc::Refused;
 use std::fmt;
 
 // Why a call is declined.
@@ -106,6 +109,56 @@ pub impl fmt::Display for Fault as FaultDisplay {
         write!(
             f,
             "refusal {number}, layer {layer}, place {place}: {phrase}"
+        )
+    }
+}
+
+// Why work that needs memory was not done: it was declined, or there was no memory for it.
+#[derive(Clone, Copy, Debug)]
+pub enum Failure {
+    Declined(Fault),
+    NoMemory,
+}
+
+pub impl From<Fault> for Failure as FailureFromFault {
+    ghost converts = { λ e r. r ≡ Declined e };
+
+    fn from(e: Fault) -> Failure {
+        Failure::Declined(e)
+    }
+}
+
+pub impl From<AllocError> for Failure as FailureFromAlloc {
+    ghost converts = { λ _ r. r ≡ NoMemory };
+
+    fn from(_e: AllocError) -> Failure {
+        Failure::NoMemory // nothing was allocated
+    }
+}
+
+pub impl<T: Drop> From<Refused<T>> for Failure as FailureFromRefused {
+    ghost converts = { λ _ r. r ≡ NoMemory };
+
+    fn from(_e: Refused<T>) -> Failure {
+        Failure::NoMemory // a value found no place
+    }
+}
+
+#[cfg(test)]
+mod tests {
+    use super::*;
+    use std::test::*;
+
+    #[test]
+    fn a_fault_in_words(rt: LibcRuntime) -> Result<(), Fail> {
+        let fault = Fault {
+            refusal: Refusal::LogFull,
+            layer: Layer::Log,
+            place: 3,
+        };
+        let text = fault.to_string(rt.alloc())?;
+        check(
+            text.as_str() == "refusal 12, layer 1, place 3: more entries are needed than are free",
         )
     }
 }

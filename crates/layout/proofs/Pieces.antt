@@ -2,21 +2,23 @@
 use mathlib.Core.Path.{_≡_, refl, sym, ap, _∙_}
 use mathlib.Core.Logic.{_⊎_, inl, inr, ⊎-elim}
 use mathlib.Core.List.{List, [], _∷_, _++_, map}
-use Prim.Native.Nat.{ℕ, zero, suc, _+_, _*_, _^_, _≤_, _<_}
+use mathlib.Core.Bool.{true}
+use Prim.Native.Nat.{ℕ, zero, suc, min, _+_, _-_, _*_, _^_, _≤_, _<_}
 use native.Mathlib.Omega.{arith}
 use native.Mathlib.Numerals.{add-one}
-use lib.ListN.{length, take, drop}
-use lib.Dec.{ltb}
+use lib.ListN.{length, getD, take, drop, length-take}
+use lib.Dec.{leb, ltb}
 use lib.Seq.{take-add}
 use Rattle.std.specs.Iters.{counting}
 use Rattle.std.specs.Joined.{joined}
-use Rattle.std.proofs.shelf.Lists.{take-all, joined-more}
-use Rattle.std.proofs.shelf.Counted.{map-counting-more}
-use Rattle.std.proofs.shelf.Tests.{and-parts, and-cases, ltb-true, ltb-false}
+use Rattle.std.proofs.shelf.Lists.{take-all, joined-more, length-drop}
+use Rattle.std.proofs.shelf.Counted.{map-counting-more, length-map-counting, getD-map-counting}
+use Rattle.std.proofs.shelf.Tests.{and-parts, and-cases, and-from, ltb-true, ltb-false, le-leb, lt-ltb}
 use Rattle.std.proofs.shelf.Ways.{tells}
 use Rattle.std.specs.declared.option.Option.the-variants.{Some, None}
 use Rattle.std.specs.declared.result.Result.the-variants.{Ok}
-use Rattle.layout.specs.Entries.{Piece}
+use Rattle.layout.specs.Entries.{Piece, Group, no-piece, mark-of, is-mark, piece-fits, entry-fits, entry-of}
+use Rattle.layout.specs.Groups.{fit-upto, group-fits}
 use Rattle.layout.proofs.Tellings.{cond-some, cond-none}
 use Rattle.layout.specs.Writes.{entries-for, write-for, piece-of, piece-for, split-of}
 
@@ -57,3 +59,50 @@ module _ (limit offset n k : ℕ) (small : limit < 2 ^ 64) (taken : Ok k ≡ wri
 
   pub taken-offset : (d : ℕ) → d < entries-for n → offset + 512 * d < 2 ^ 64
   taken-offset d h = grind (arith, tells)
+
+  pub taken-few : n ≤ 4096
+  taken-few = grind (arith, tells)
+
+  pub taken-end : 0 < n → offset + n ≤ limit
+  taken-end h = grind (arith, tells)
+
+length-split : (offset : ℕ) (bs : List ℕ) → length (split-of offset bs) ≡ entries-for (length bs)
+unfolding split-of
+length-split offset bs = length-map-counting (piece-of offset bs) 0 (entries-for (length bs))
+
+getD-split : (offset : ℕ) (bs : List ℕ) (d : ℕ) → d < entries-for (length bs) → getD (split-of offset bs) d no-piece ≡ piece-of offset bs d
+unfolding split-of
+getD-split offset bs d h = getD-map-counting (piece-of offset bs) 0 (entries-for (length bs)) d d no-piece h (omega arith)
+
+-- the pieces of a write make a fit group
+module _ (r offset : ℕ) (bs : List ℕ) (row : r < 16) (few : length bs ≤ 4096) (end : offset + length bs ≤ 2097152) where
+  group : Group
+  group = record { row = r; pieces = split-of offset bs }
+
+  fit-mark : (k d : ℕ) → d < k → k ≤ 8 → is-mark (mark-of k d) ≡ true
+  fit-mark k d h l = grind (arith, tells)
+
+  fit-piece : (d : ℕ) → d < entries-for (length bs) → piece-fits (offset + 512 * d) (length (take 512 (drop (512 * d) bs))) ≡ true
+  fit-piece d h =
+      let n = length (take 512 (drop (512 * d) bs)) in
+      let long : n ≡ min 512 (length bs - 512 * d) = length-take 512 (drop (512 * d) bs) ∙ ap (min 512) (length-drop (512 * d) bs) in
+      and-from (leb 1 n) _ (le-leb 1 n (omega arith)) (and-from (leb n 512) _ (le-leb n 512 (omega arith)) (le-leb (offset + 512 * d + n) 2097152 (omega arith)))
+
+  fit-entry : (d : ℕ) → d < entries-for (length bs) → entry-fits (entry-of group d) ≡ true
+  unfolding group
+  fit-entry d h =
+      let k = length (split-of offset bs) in
+      let long = length-split offset bs in
+      and-from (is-mark (mark-of k d)) _ (fit-mark k d (omega arith) (omega arith))
+      (and-from (ltb r 16) _ (lt-ltb r 16 row) (ap (λ p. piece-fits (p .offset) (length (p .bytes))) (getD-split offset bs d h) ∙ fit-piece d h))
+
+  fit-all : (n : ℕ) → n ≤ entries-for (length bs) → fit-upto group n ≡ true
+  fit-all zero h = refl
+  fit-all (suc n) h = and-from (entry-fits (entry-of group n)) (fit-upto group n) (fit-entry n (omega arith)) (fit-all n (omega arith))
+
+  pub split-fits : 0 < length bs → group-fits (record { row = r; pieces = split-of offset bs }) ≡ true
+  unfolding group
+  split-fits some =
+      let k = length (split-of offset bs) in
+      let long = length-split offset bs in
+      and-from (leb 1 k) _ (le-leb 1 k (omega arith)) (and-from (leb k 8) _ (le-leb k 8 (omega arith)) (fit-all k (omega arith)))

@@ -2,7 +2,7 @@
 use mathlib.Core.Path.{_≡_}
 use mathlib.Core.Bool.{Bool, cond, _&&_, _||_}
 use mathlib.Core.List.{List, [], _∷_, _++_, map}
-use Prim.Native.Nat.{ℕ, _+_, _-_}
+use Prim.Native.Nat.{ℕ, _+_, _-_, _≤_}
 use lib.Dec.{leb, ltb, eqb}
 use lib.ListN.{length, getD, drop, replicate}
 use Rattle.std.specs.shelf.Text.{sameBytes}
@@ -84,6 +84,7 @@ pub record Holds (x : Held) (e : Entry) : Type 0 where
   pub row : x .row ≡ e .row
   pub offset : x .offset ≡ e .offset
   pub count : x .count ≡ length (e .bytes)
+  pub few : x .count ≤ 512
   pub front : x .bytes ≡ e .bytes ++ replicate (512 - length (e .bytes)) 0
 
 -- the code read an entry as the definition does, or declines it

@@ -2,7 +2,7 @@
 use mathlib.Core.Path.{_≡_}
 use mathlib.Core.Bool.{Bool, true, cond, not, _&&_}
 use mathlib.Core.List.{List, [], _∷_, _++_}
-use Prim.Native.Nat.{ℕ, _-_}
+use Prim.Native.Nat.{ℕ, _-_, _≤_}
 use lib.Dec.{leb, eqb}
 use lib.ListN.{length, getD, drop, replicate}
 use Rattle.std.specs.shelf.Text.{sameBytes}
@@ -39,6 +39,7 @@ read-path ws = cond (path-fits (said-path ws) && sameBytes ws (row-words (said-p
 -- the path that the code holds, with zeros after it
 pub record Holds (n : Name) (path : List ℕ) : Type 0 where
   pub long : n .length ≡ length path
+  pub few : n .length ≤ 32
   pub front : n .bytes ≡ path ++ replicate (32 - length path) 0
 
 -- the code read a row as the definition does, or declines it

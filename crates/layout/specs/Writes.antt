@@ -1,8 +1,8 @@
 -- A write cut into pieces.
 use mathlib.Core.Path.{_≡_}
-use mathlib.Core.Bool.{cond, _&&_}
+use mathlib.Core.Bool.{true, cond, _&&_}
 use mathlib.Core.List.{List, map}
-use Prim.Native.Nat.{ℕ, _+_, _*_, _/_, _^_}
+use Prim.Native.Nat.{ℕ, _+_, _*_, _/_, _^_, _≤_, _<_}
 use lib.Dec.{ltb, eqb}
 use lib.ListN.{length, take, drop}
 use Rattle.std.specs.Iters.{counting}
@@ -14,11 +14,12 @@ use Rattle.std.specs.declared.option.Option.{Option}
 use Rattle.std.specs.declared.option.Option.the-variants.{Some, None}
 use Rattle.std.specs.declared.result.Result.{Result}
 use Rattle.std.specs.declared.result.Result.the-variants.{Ok, Err}
+use Rattle.device.specs.declared.Failure.{Failure}
+use Rattle.device.specs.declared.Failure.the-variants.{Declined, NoMemory}
 use Rattle.device.specs.Numbers.{Told, refusal, told}
 use Rattle.layout.specs.declared.entries.Piece.{Piece as Given}
-use Rattle.layout.specs.declared.writes.SplitError.{SplitError}
-use Rattle.layout.specs.declared.writes.SplitError.the-variants.{Declined, NoMemory}
 use Rattle.layout.specs.Entries.{Piece, plain}
+use Rattle.layout.specs.Groups.{group-fits}
 
 -- how many entries n bytes take
 abbrev pub entries-for : ℕ → ℕ
@@ -42,8 +43,14 @@ piece-for offset bs d = cond (ltb d (entries-for (length bs)) && ltb (offset + 5
 unfoldable pub split-of : ℕ → List ℕ → List Piece
 split-of offset bs = map (piece-of offset bs) (counting 0 (entries-for (length bs)))
 
--- what a cut of a write answers: the pieces, which joined give the write back, or why it is declined
-abbrev pub Split : ℕ → ℕ → List ℕ → Result (Vec Given Global) SplitError → Type 0
-Split limit offset bs (Ok v) = (write-for limit offset (length bs) ≡ Ok (length (vec-items v))) × (map plain (vec-items v) ≡ split-of offset bs) × (joined (λ p. p .bytes) (map plain (vec-items v)) ≡ bs)
+-- the pieces of a write that was cut: as many as it takes; joined, they give the write back; and they make a fit group for each row
+pub record Cut (limit offset : ℕ) (bs : List ℕ) (ps : List Piece) : Type 0 where
+  pub count : write-for limit offset (length bs) ≡ Ok (length ps)
+  pub pieces : ps ≡ split-of offset bs
+  pub whole : joined (λ p. p .bytes) ps ≡ bs
+  pub fit : (r : ℕ) → r < 16 → 0 < length bs → limit ≤ 2097152 → group-fits (record { row = r; pieces = ps }) ≡ true
+
+abbrev pub Split : ℕ → ℕ → List ℕ → Result (Vec Given Global) Failure → Type 0
+Split limit offset bs (Ok v) = Cut limit offset bs (map plain (vec-items v))
 Split limit offset bs (Err (Declined e)) = write-for limit offset (length bs) ≡ Err (told e)
 Split limit offset bs (Err NoMemory) = Unit {0}

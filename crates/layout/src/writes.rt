@@ -2,17 +2,16 @@
 ghost use mathlib.Core.Path.{_≡_};
 ghost use Rattle.std.specs.Options.{mapped};
 ghost use Rattle.device.specs.Numbers.{answer};
-ghost use Rattle.layout.specs.declared.writes.SplitError.the-variants.{Declined, NoMemory};
 ghost use Rattle.layout.specs.Entries.{plain};
 ghost use Rattle.layout.specs.Writes.{write-for, piece-for, Split};
 use crate::entries::Piece;
+use device::Failure;
+use device::FailureFromFault;
+use device::FailureFromRefused;
 use device::Fault;
-use device::FaultDebug;
 use device::Layer;
 use device::Refusal;
-use std::alloc::AllocError;
 use std::alloc::Global;
-use std::alloc::Refused;
 
 pub const MOST_WRITE: usize = 4096;
 
@@ -58,44 +57,13 @@ pub fn piece_of<'a>(offset: u64, bytes: &'a [u8], d: usize) -> Option<Piece<'a>>
     })
 }
 
-// Why a write was not cut.
-#[derive(Clone, Copy, Debug)]
-pub enum SplitError {
-    Declined(Fault),
-    NoMemory,
-}
-
-pub impl From<Fault> for SplitError as SplitErrorFromFault {
-    ghost converts = { λ e r. r ≡ Declined e };
-
-    fn from(e: Fault) -> SplitError {
-        SplitError::Declined(e)
-    }
-}
-
-pub impl From<AllocError> for SplitError as SplitErrorFromAlloc {
-    ghost converts = { λ _ r. r ≡ NoMemory };
-
-    fn from(_e: AllocError) -> SplitError {
-        SplitError::NoMemory
-    }
-}
-
-pub impl<T: Drop> From<Refused<T>> for SplitError as SplitErrorFromRefused {
-    ghost converts = { λ _ r. r ≡ NoMemory };
-
-    fn from(_e: Refused<T>) -> SplitError {
-        SplitError::NoMemory
-    }
-}
-
 // The pieces of a write to a file of at most `limit` bytes.
 pub fn split<'a>(
     heap: Global,
     limit: u64,
     offset: u64,
     bytes: &'a [u8],
-) -> Result<Vec<Piece<'a>>, SplitError>
+) -> Result<Vec<Piece<'a>>, Failure>
     ensures { λ r. ⌜ Split limit offset (now (bytes .entry)) r ⌝ }
 {
     entries_for(limit, offset, bytes.len())?;

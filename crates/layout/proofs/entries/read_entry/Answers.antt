@@ -40,5 +40,5 @@ returns c =
     let again = c .words-of-again .ensures .words ∙ ap (λ (bs : List ℕ). entry-words (record { mark = getD ws 0 0; row = getD ws 1 0; offset = getD ws 2 0; bytes = bs })) (cut .0) in (
       said ws,
       an-entry ws (sym (fits-said ws) ∙ sym (c .if-not-entry-fits .ensures tt)) (ap (sameBytes ws) (sym again) ∙ sym (c .if-not-same-words .ensures tt)),
-      record { mark = refl; row = refl; offset = refl; count = sym (length-unpacked (getD ws 3 0) (drop 4 ws)); front = cut .1 },
+      record { mark = refl; row = refl; offset = refl; count = sym (length-unpacked (getD ws 3 0) (drop 4 ws)); few = few ws (c .if-not-entry-fits .ensures tt); front = cut .1 },
     )

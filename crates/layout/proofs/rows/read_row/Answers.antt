@@ -35,5 +35,5 @@ returns c =
     let row = row-given (said-path ws) (c .in-Ok .again) (c .in-Ok .ensures tt .words ∙ ap row-of (cut .0)) in (
       said-path ws,
       a-path ws (row .0) (ap (sameBytes ws) (sym (row .1)) ∙ sym (c .if-not-same-words .ensures tt)),
-      record { long = sym (length-unpacked (getD ws 0 0) (drop 1 ws)); front = cut .1 },
+      record { long = sym (length-unpacked (getD ws 0 0) (drop 1 ws)); few = omega arith; front = cut .1 },
     )

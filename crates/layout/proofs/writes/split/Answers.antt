@@ -1,10 +1,11 @@
 use mathlib.Core.Path.{_≡_, sym, ap, subst, _∙_}
+use mathlib.Core.Bool.{true}
 use mathlib.Core.Logic.{⊎-elim}
 use mathlib.Core.List.{List, [], _∷_, _++_, map}
 use Prim.Native.Nat.{ℕ, _+_, _*_, _^_, _≤_, _<_}
 use native.Mathlib.Omega.{arith}
 use lib.ListN.{length}
-use Rattle.std.proofs.shelf.Lists.{map-push}
+use Rattle.std.proofs.shelf.Lists.{map-push, length-map}
 use Rattle.std.proofs.shelf.Counted.{map-counting-more}
 use Rattle.std.proofs.shelf.Tests.{cases-lt}
 use Rattle.std.specs.Iters.{counting}
@@ -12,8 +13,9 @@ use Rattle.std.specs.Joined.{joined}
 use Rattle.std.specs.Of.Vec.{vec-items, vec-len}
 use Rattle.std.specs.declared.result.Result.the-variants.{Ok}
 use Rattle.layout.specs.Entries.{Piece, plain}
+use Rattle.layout.specs.Groups.{group-fits}
 use Rattle.layout.specs.Writes.{entries-for, piece-of, split-of}
-use Rattle.layout.proofs.Pieces.{piece-given, no-piece-given, taken-count, taken-offset, split-joined}
+use Rattle.layout.proofs.Pieces.{piece-given, no-piece-given, taken-count, taken-offset, taken-few, taken-end, split-joined, split-fits}
 use Rattle.layout.proofs.writes.split.Needs as need
 
 pub loop-piece-again : need.loop-piece-again
@@ -48,8 +50,12 @@ returns c =
     (λ h. ⊎-elim (λ lt. absurd (omega (arith, c .len .ensures, taken-offset limit offset (length bs) k small taken (vec-len v) lt))) (λ le. le) (cases-lt (vec-len v) (entries-for (length bs))))
     (no-piece-given offset bs (c .len .result) (c .in-rest .ensures tt)) in
     let end : vec-len v ≡ entries-for (length bs) = omega (arith, c .loop-piece .inv .1) in
-    let pieces : map plain (vec-items v) ≡ split-of offset bs = c .loop-piece .inv .0 ∙ ap (λ n. map (piece-of offset bs) (counting 0 n)) end in (
-      sym taken ∙ ap (λ n. Ok n) (taken-count limit offset (length bs) k small taken ∙ sym end ∙ v .ok .0),
-      pieces,
-      ap (λ l. joined (λ p. p .bytes) l) pieces ∙ split-joined offset bs,
-    )
+    let pieces : map plain (vec-items v) ≡ split-of offset bs = c .loop-piece .inv .0 ∙ ap (λ n. map (piece-of offset bs) (counting 0 n)) end in
+    record {
+      count = sym taken ∙ ap (λ n. Ok n) (taken-count limit offset (length bs) k small taken ∙ sym end ∙ v .ok .0 ∙ sym (length-map (vec-items v) plain));
+      pieces = pieces;
+      whole = ap (λ l. joined (λ p. p .bytes) l) pieces ∙ split-joined offset bs;
+      fit = λ r low some most.
+          subst (λ (ps : List Piece). group-fits (record { row = r; pieces = ps }) ≡ true) (sym pieces)
+          (split-fits r offset bs low (taken-few limit offset (length bs) k small taken) (omega (arith, taken-end limit offset (length bs) k small taken some)) some);
+    }

@@ -1,0 +1,4 @@
+pub mod Cuts
+pub mod Fresh
+pub mod Naming
+pub mod Laying
