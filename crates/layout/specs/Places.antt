@@ -1,8 +1,9 @@
 -- Where things stand in the words of a log with N entries.
 use mathlib.Core.Bool.{Bool, cond, _&&_}
-use mathlib.Core.List.{List, [], _∷_}
+use mathlib.Core.List.{List, [], _∷_, _++_}
 use Prim.Native.Nat.{ℕ, min, _+_, _-_, _*_, _%_, _^_}
 use lib.Dec.{leb, ltb}
+use lib.ListN.{getD, replicate}
 use Rattle.std.specs.declared.option.Option.{Option}
 use Rattle.std.specs.declared.option.Option.the-variants.{Some, None}
 use Rattle.std.specs.declared.result.Result.{Result}
@@ -26,6 +27,14 @@ header-words N = 1 ∷ 8 ∷ 80 ∷ 88 ∷ 1 ∷ 89 ∷ 68 * N ∷ 0 ∷ []
 
 abbrev pub header-for : ℕ → Option (List ℕ)
 header-for N = cond (entries-fit N) (Some (header-words N)) None
+
+-- an empty log: 16 free rows, the tail at position 0, and entries with mark 0
+abbrev pub empty-words : ℕ → List ℕ
+empty-words N = header-words N ++ (replicate 80 0 ++ (0 ∷ replicate (68 * N) 0))
+
+-- the position of the oldest entry
+abbrev pub tail-of : List ℕ → ℕ
+tail-of W = getD W 88 0
 
 -- the first word of a row of names, and of the entry at a position
 abbrev pub row-at : ℕ → ℕ

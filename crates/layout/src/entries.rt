@@ -17,7 +17,7 @@ use device::Refusal;
 
 pub const MOST_GROUP: usize = 8;
 
-pub const MOST_PIECE: u64 = 512;
+pub const PIECE: usize = 512;
 
 pub const MOST_FILE: u64 = 2_097_152;
 
@@ -48,7 +48,7 @@ fn is_mark(mark: u64) -> bool
 fn piece_fits(offset: u64, count: u64) -> bool
     ensures { λ r. ⌜ r ≡ piece-fits offset count ⌝ }
 {
-    count >= 1 && count <= MOST_PIECE && offset <= MOST_FILE - count
+    count >= 1 && count <= PIECE as u64 && offset <= MOST_FILE - count
 }
 
 fn entry_fits(mark: u64, row: u64, offset: u64, count: u64) -> bool

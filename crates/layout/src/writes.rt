@@ -4,6 +4,7 @@ ghost use Rattle.std.specs.Options.{mapped};
 ghost use Rattle.device.specs.Numbers.{answer};
 ghost use Rattle.layout.specs.Entries.{plain};
 ghost use Rattle.layout.specs.Writes.{write-for, piece-for, Split};
+use crate::entries::PIECE;
 use crate::entries::Piece;
 use device::Failure;
 use device::FailureFromFault;
@@ -14,8 +15,6 @@ use device::Refusal;
 use std::alloc::Global;
 
 pub const MOST_WRITE: usize = 4096;
-
-pub const PIECE: usize = 512;
 
 // How many entries a write takes in a file of at most `limit` bytes.
 pub fn entries_for(limit: u64, offset: u64, length: usize) -> Result<usize, Fault>

@@ -23,7 +23,8 @@ use Rattle.layout.specs.Writes.{Cut, write-for}
 use Rattle.layout.proofs.Reading.{length-entry-words}
 use Rattle.layout.proofs.Grouping.{in-a-row-is}
 use Rattle.nvlog.specs.Rows.{taken-row}
-use Rattle.nvlog.specs.Writes.{State, within, asked}
+use Rattle.nvlog.specs.States.{State}
+use Rattle.nvlog.specs.Writes.{within, asked}
 
 pub laid-more : (n p k d : ℕ) (g : Group) (W words group run words′ : List ℕ) →
     9 ≤ n → length words ≡ 89 + 68 * n → d < k → group ≡ words-upto g k → run ≡ in-a-row group d → words ≡ laid n p g W d →

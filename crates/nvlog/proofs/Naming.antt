@@ -13,10 +13,12 @@ use Rattle.std.specs.declared.result.Result.the-variants.{Ok}
 use Rattle.layout.specs.Places.{row-at}
 use Rattle.layout.specs.Rows.{row-of, row-words}
 use Rattle.layout.proofs.Reading.{row-given, length-row-words}
+use Rattle.nvlog.specs.States.{State, reworded}
 use Rattle.nvlog.specs.Rows.{RowIs, OwnRow, FreeRow, FirstRow, Named}
 
-pub named-free : (W path row copied rest : List ℕ) (r len : ℕ) → Ok row ≡ row-of path → FirstRow (RowIs W row) None → FreeRow W (Some r) → (row-at r + length row ≤ length W → copied ≡ paste W (row-at r) row (length row)) → 89 ≤ length W → len ≡ length W → Named W path (Ok r) (take len (copied ++ rest))
-named-free W path row copied rest r len given own free wrote wide long =
+pub named-free : (s : State) (path row copied rest : List ℕ) (r len : ℕ) → Ok row ≡ row-of path → FirstRow (RowIs (s .words) row) None → FreeRow (s .words) (Some r) → (row-at r + length row ≤ length (s .words) → copied ≡ paste (s .words) (row-at r) row (length row)) → 89 ≤ length (s .words) → len ≡ length (s .words) → Named s path (Ok r) (reworded s (take len (copied ++ rest)))
+named-free s path row copied rest r len given own free wrote wide long =
+    let W = s .words in
     let fits = row-given path row given in
     let five : length row ≡ 5 = ap length (fits .1) ∙ length-row-words path in
     let is : copied ≡ paste W (row-at r) row (length row) = wrote (omega (arith, free .0)) in
@@ -25,6 +27,6 @@ named-free W path row copied rest r len given own free wrote wide long =
       inr (
         subst (λ ws. FirstRow (RowIs W ws) None) (fits .1) own,
         free,
-        take-at copied rest len (omega arith) ∙ is ∙ (λ i. paste W (row-at r) (fits .1 i) (five i)),
+        ap (reworded s) (take-at copied rest len (omega arith) ∙ is ∙ (λ i. paste W (row-at r) (fits .1 i) (five i))),
       ),
     )

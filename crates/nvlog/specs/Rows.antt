@@ -15,6 +15,7 @@ use Rattle.device.specs.Numbers.{Says}
 use Rattle.device.specs.declared.Fault.{Fault}
 use Rattle.layout.specs.Places.{row-at}
 use Rattle.layout.specs.Rows.{path-fits, row-words}
+use Rattle.nvlog.specs.States.{State, reworded}
 
 -- row r has a name
 abbrev pub taken-row : List ℕ → ℕ → Bool
@@ -37,9 +38,13 @@ OwnRow W path = FirstRow (RowIs W (row-words path))
 abbrev pub FreeRow : List ℕ → Option ℕ → Type 0
 FreeRow W = FirstRow (λ q. taken-row W q ≡ false)
 
--- a path's own row, or the lowest free one, which then holds the path
-abbrev pub Named : List ℕ → List ℕ → Result ℕ Fault → List ℕ → Type 0
-Named W path (Ok r) W′ =
-    (path-fits path ≡ true) × ((OwnRow W path (Some r) × (W′ ≡ W)) ⊎ (OwnRow W path None × FreeRow W (Some r) × (W′ ≡ paste W (row-at r) (row-words path) 5)))
-Named W path (Err e) W′ =
-    (W′ ≡ W) × (((path-fits path ≡ false) × Says e 4 0 0) ⊎ ((path-fits path ≡ true) × OwnRow W path None × FreeRow W None × Says e 7 3 16))
+-- a path's own row, or the lowest free one, which then holds the path; nothing else changes
+abbrev pub Named : State → List ℕ → Result ℕ Fault → State → Type 0
+Named s path (Ok r) s′ =
+    (path-fits path ≡ true)
+    × ((OwnRow (s .words) path (Some r) × (s′ ≡ s))
+    ⊎ (OwnRow (s .words) path None × FreeRow (s .words) (Some r) × (s′ ≡ reworded s (paste (s .words) (row-at r) (row-words path) 5))))
+Named s path (Err e) s′ =
+    (s′ ≡ s)
+    × (((path-fits path ≡ false) × Says e 4 0 0)
+    ⊎ ((path-fits path ≡ true) × OwnRow (s .words) path None × FreeRow (s .words) None × Says e 7 3 16))

@@ -1,10 +1,10 @@
 -- What a write does to a log that is kept in words.
 use mathlib.Core.Path.{_≡_}
-use mathlib.Core.Bool.{Bool, cond, not}
-use mathlib.Core.List.{List, _++_}
-use Prim.Native.Nat.{ℕ, _+_, _-_, _*_, _%_}
-use lib.Dec.{ltb, eqb}
-use lib.ListN.{length, replicate}
+use mathlib.Core.Bool.{cond}
+use mathlib.Core.List.{List}
+use Prim.Native.Nat.{ℕ, _+_, _-_, _%_}
+use lib.Dec.{ltb}
+use lib.ListN.{length}
 use Rattle.std.specs.declared.option.Option.{Option}
 use Rattle.std.specs.declared.option.Option.the-variants.{Some, None}
 use Rattle.std.specs.declared.result.Result.{Result}
@@ -14,28 +14,14 @@ use Rattle.device.specs.declared.Failure.{Failure}
 use Rattle.device.specs.declared.Failure.the-variants.{Declined, NoMemory}
 use Rattle.layout.specs.Entries.{Group}
 use Rattle.layout.specs.Groups.{laid}
-use Rattle.layout.specs.Places.{width-for, header-words}
+use Rattle.layout.specs.Places.{width-for}
 use Rattle.layout.specs.Writes.{write-for, split-of}
 use Rattle.std.specs.Of.Vec.{vec-items}
 use Rattle.std.specs.declared.alloc.AllocError.{AllocError}
 use Rattle.nvlog.specs.declared.word_log.Laid.{Laid as Place}
 use Rattle.nvlog.specs.declared.word_log.WordLog.{WordLog}
+use Rattle.nvlog.specs.States.{State, state-of, empty}
 use Rattle.nvlog.specs.Rows.{taken-row}
-
--- a log: its number of entries, its words, its head, and how many entries and writes wait
-pub record State : Type 0 where
-  pub entries : ℕ
-  pub words : List ℕ
-  pub head : ℕ
-  pub taken : ℕ
-  pub writes : ℕ
-
-abbrev pub state-of : WordLog → State
-state-of l = record { entries = l .entries; words = vec-items (l .words); head = l .head; taken = l .taken; writes = l .writes }
-
--- an empty log
-abbrev pub empty : ℕ → State
-empty N = record { entries = N; words = header-words N ++ replicate (81 + 68 * N) 0; head = 0; taken = 0; writes = 0 }
 
 -- how many entries a write takes, or why it is declined, where `free` entries are free
 abbrev pub within : ℕ → Result ℕ Told → Result ℕ Told

@@ -1,5 +1,9 @@
 // The writes that the words of a log hold, read from the words alone.
-ghost use Prim.Native.Nat.{_≤_};
+ghost use mathlib.Core.Path.{_≡_};
+ghost use Prim.Native.Nat.{_≤_, _<_};
+ghost use lib.ListN.{take};
+ghost use Rattle.std.specs.declared.option.Option.the-variants.{Some};
+ghost use Rattle.layout.specs.Places.{header-for, tail-of};
 ghost use Rattle.std.specs.Vec.{made};
 use crate::slices::part;
 use device::Failure;
@@ -75,7 +79,9 @@ fn goes_on(first: &Entry, d: usize, length: usize, entry: &Entry) -> bool {
 }
 
 // How many entries the log has, as its header says.
-fn entries_in(words: &[u64]) -> Result<usize, Fault> {
+fn entries_in(words: &[u64]) -> Result<usize, Fault>
+    ensures { λ r. ⌜ made r (λ n. header-for n ≡ Some (take 8 (now (words .entry)))) ⌝ }
+{
     let first = part(words, 0, HEADER_WORDS);
     if first.len() == HEADER_WORDS {
         let n = first[6] as usize / ENTRY_WORDS;
@@ -92,7 +98,9 @@ fn entries_in(words: &[u64]) -> Result<usize, Fault> {
     })
 }
 
-fn tail_in(words: &[u64], n: usize) -> Result<usize, Fault> {
+fn tail_in(words: &[u64], n: usize) -> Result<usize, Fault>
+    ensures { λ r. ⌜ made r (λ p. (p ≡ tail-of (now (words .entry))) × (p < n)) ⌝ }
+{
     if TAIL < words.len() {
         let tail = words[TAIL] as usize;
         if tail < n {

@@ -3,11 +3,11 @@ ghost use mathlib.Core.Path.{_≡_};
 ghost use mathlib.Core.Bool.{true, false};
 ghost use Prim.Native.Nat.{_+_, _*_, _≤_, _<_};
 ghost use lib.ListN.{length};
-ghost use Rattle.std.specs.Of.Vec.{vec-items};
 ghost use Rattle.layout.specs.Entries.{Group, group-of};
 ghost use Rattle.layout.specs.Groups.{group-fits, words-upto, laid};
 ghost use Rattle.nvlog.specs.Rows.{taken-row, RowIs, FirstRow, Named};
-ghost use Rattle.nvlog.specs.Writes.{state-of, LaidOut, Written, Made};
+ghost use Rattle.nvlog.specs.States.{state-of};
+ghost use Rattle.nvlog.specs.Writes.{LaidOut, Written, Made};
 use crate::slices::copy_at;
 use crate::slices::part;
 use crate::word_log::Laid;
@@ -63,7 +63,7 @@ impl WordLog {
 
     // The row of a path: its own, or the lowest free one, which it takes.
     pub fn name(&mut self, path: &[u8]) -> Result<usize, Fault>
-        ensures { λ r. ⌜ Named (vec-items (now (self .entry) .words)) (now (path .entry)) r (vec-items (now (self .exit) .words)) ⌝ }
+        ensures { λ r. ⌜ Named (state-of (now (self .entry))) (now (path .entry)) r (state-of (now (self .exit))) ⌝ }
     {
         let row = row_words(path)?;
         if let Some(own) = find_row(self.words.as_slice(), &row) {

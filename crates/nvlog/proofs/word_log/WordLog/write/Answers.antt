@@ -8,7 +8,7 @@ use Rattle.std.specs.Of.Vec.{vec-items, vec-len}
 use Rattle.layout.specs.Entries.{group-of}
 use Rattle.layout.specs.Groups.{group-fits}
 use Rattle.nvlog.specs.Rows.{taken-row}
-use Rattle.nvlog.specs.Writes.{state-of}
+use Rattle.nvlog.specs.States.{state-of}
 use Rattle.nvlog.proofs.Laying.{asked-nothing, asked-too-much, group-is-fit}
 use Rattle.nvlog.proofs.word_log.WordLog.write.Needs as need
 
