@@ -1,6 +1,6 @@
 -- The entries of a group.
 use mathlib.Core.Path.{_≡_, refl, sym, ap, _∙_, subst}
-use mathlib.Core.Bool.{Bool, true, false, cond, _&&_}
+use mathlib.Core.Bool.{true, false, cond}
 use mathlib.Core.List.{List, [], _∷_, _++_, map}
 use Prim.Native.Nat.{ℕ, zero, suc, _+_, _*_, _≤_, _<_}
 use native.Mathlib.Omega.{arith}
@@ -17,8 +17,7 @@ use Rattle.std.proofs.shelf.Counted.{map-counting-more}
 use Rattle.std.proofs.shelf.Tests.{and-from, and-left, and-right, cond-true, cond-false, lt-leb, le-leb, le-ltb, lt-ltb, eq-eqb, cases-lt, and-parts, and-cases, both-ways}
 use Rattle.std.specs.declared.option.Option.the-variants.{Some, None}
 use Rattle.layout.specs.declared.entries.Piece.{Piece as Given}
-use Rattle.layout.specs.Packing.{Bytes}
-use Rattle.layout.specs.Entries.{Piece, Group, Entry, no-piece, plain, mark-of, entry-fits, entry-words, entry-of, entry-words-of, group-of, read-entry}
+use Rattle.layout.specs.Entries.{Group, Entry, no-piece, plain, mark-of, entry-fits, entry-words, entry-of, entry-words-of, group-of, read-entry}
 use Rattle.layout.proofs.Tellings.{cond-some, cond-none}
 use Rattle.layout.specs.Groups.{words-upto, group-words, fit-upto, one-more, pieces-from, group-after, read-group, in-a-row}
 use Rattle.layout.proofs.Reading.{length-entry-words}

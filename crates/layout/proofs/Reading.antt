@@ -1,22 +1,21 @@
 -- When words are a path's or an entry's, and that what was written is read again.
 use mathlib.Core.Path.{_≡_, refl, sym, ap, _∙_, subst}
-use mathlib.Core.Bool.{Bool, true, false, cond, _&&_}
-use mathlib.Core.List.{List, [], _∷_, _++_}
+use mathlib.Core.Bool.{Bool, true, false, cond}
+use mathlib.Core.List.{List, _++_}
 use Prim.Native.Nat.{ℕ, suc, _+_, _-_, _≤_, _<_}
 use native.Mathlib.Omega.{arith}
-use lib.Dec.{leb, eqb}
+use lib.Dec.{leb}
 use lib.ListN.{length, getD, take, drop, replicate}
 use Rattle.std.proofs.shelf.Lists.{take-all, take-at, length-drop}
 use Rattle.std.proofs.shelf.Tests.{and-from, and-left, and-right, and-parts, cond-true, cond-false, lt-leb, leb-true}
 use Rattle.std.proofs.shelf.Equals.{sameBytes-decides}
 use Rattle.std.specs.shelf.Text.{sameBytes}
-use Rattle.std.specs.declared.option.Option.{Option}
 use Rattle.std.specs.declared.option.Option.the-variants.{Some, None}
 use Rattle.std.specs.declared.result.Result.the-variants.{Ok, Err}
 use Rattle.device.specs.Numbers.{Told, refusal}
 use Rattle.layout.specs.Packing.{packed, unpacked, Bytes}
 use Rattle.layout.specs.Rows.{no-zero, path-fits, row-words, row-of, said-path, read-path}
-use Rattle.layout.specs.Entries.{Entry, entry-fits, piece-fits, is-mark, entry-words, said, read-entry}
+use Rattle.layout.specs.Entries.{Entry, entry-fits, is-mark, entry-words, said, read-entry}
 use Rattle.layout.proofs.Tellings.{cond-ok, cond-err}
 use Rattle.layout.proofs.Packed.{length-packed, length-unpacked, unpacked-packed}
 

@@ -2,9 +2,14 @@
 
 #[derive(Clone, Copy)]
 pub enum Command<'a> {
-    Log {
-        entries: usize,
-    },
+    // Begin a log.
+    Log { entries: usize },
+    // Do something with the log that is there.
+    Use(Step<'a>),
+}
+
+#[derive(Clone, Copy)]
+pub enum Step<'a> {
     Name {
         path: &'a [u8],
     },
@@ -23,47 +28,47 @@ pub enum Command<'a> {
 // The command that a line holds: fields separated by one space, and a text that is the rest of the line.
 pub fn parse<'a>(line: &'a [u8]) -> Option<Command<'a>> {
     if line == b"back" {
-        return Some(Command::Back);
+        return Some(Command::Use(Step::Back));
     }
     let (verb, rest) = field(line)?;
     if verb == b"log" {
-        return log_command(rest);
+        let entries = entries_of(rest)?;
+        return Some(Command::Log { entries });
     }
     if verb == b"name" {
-        return Some(Command::Name { path: rest });
+        return Some(Command::Use(Step::Name { path: rest }));
     }
     if verb == b"write" {
-        return write_command(rest);
+        return Some(Command::Use(write_step(rest)?));
     }
     if verb == b"words" {
-        return words_command(rest);
+        return Some(Command::Use(words_step(rest)?));
     }
     None
 }
 
-fn log_command<'a>(rest: &[u8]) -> Option<Command<'a>> {
-    let entries = number(rest)?;
+// A number of entries: at most 2 to the 32nd.
+fn entries_of(digits: &[u8]) -> Option<usize> {
+    let entries = number(digits)?;
     if entries > 1 << 32 {
         return None;
     }
-    Some(Command::Log {
-        entries: entries as usize,
-    })
+    Some(entries as usize)
 }
 
-fn write_command<'a>(rest: &'a [u8]) -> Option<Command<'a>> {
+fn write_step<'a>(rest: &'a [u8]) -> Option<Step<'a>> {
     let (row, rest) = field(rest)?;
     let (offset, text) = field(rest)?;
-    Some(Command::Write {
+    Some(Step::Write {
         row: number(row)?,
         offset: number(offset)?,
         text,
     })
 }
 
-fn words_command<'a>(rest: &[u8]) -> Option<Command<'a>> {
+fn words_step<'a>(rest: &[u8]) -> Option<Step<'a>> {
     let (from, count) = field(rest)?;
-    Some(Command::Words {
+    Some(Step::Words {
         from: number(from)? as usize,
         count: number(count)? as usize,
     })

@@ -1,5 +1,6 @@
 // Answers to commands.
 use crate::command::Command;
+use crate::command::Step;
 use crate::command::parse;
 use crate::reader::read_writes;
 use crate::slices::part;
@@ -28,12 +29,17 @@ impl Session {
             out.write_all(b"unreadable: ")?;
             return Ok(end_line(out, line)?);
         };
-        if let Command::Log { entries } = command {
-            return self.start(out, entries);
+        match command {
+            Command::Log { entries } => self.start(out, entries),
+            Command::Use(step) => self.take(out, step),
         }
+    }
+
+    // Takes a step with the log, if there is one.
+    fn take<W: Write>(&mut self, out: &mut W, step: Step<'_>) -> Result<(), AnyError> {
         match &mut self.log {
             None => Ok(end_line(out, b"no log yet")?),
-            Some(log) => obey(out, self.heap, log, command),
+            Some(log) => obey(out, self.heap, log, step),
         }
     }
 
@@ -65,14 +71,13 @@ fn obey<W: Write>(
     out: &mut W,
     heap: Global,
     log: &mut WordLog,
-    command: Command<'_>,
+    step: Step<'_>,
 ) -> Result<(), AnyError> {
-    match command {
-        Command::Log { entries: _ } => Ok(()),
-        Command::Name { path } => name(out, log, path),
-        Command::Write { row, offset, text } => write(out, heap, log, row, offset, text),
-        Command::Words { from, count } => Ok(show_words(out, log.words.as_slice(), from, count)?),
-        Command::Back => show_writes(out, heap, log.words.as_slice()),
+    match step {
+        Step::Name { path } => name(out, log, path),
+        Step::Write { row, offset, text } => write(out, heap, log, row, offset, text),
+        Step::Words { from, count } => Ok(show_words(out, log.words.as_slice(), from, count)?),
+        Step::Back => show_writes(out, heap, log.words.as_slice()),
     }
 }
 

@@ -1,5 +1,5 @@
 use mathlib.Core.Path.{ap, _∙_}
-use mathlib.Core.List.{List, _∷_, append-nil}
+use mathlib.Core.List.{_∷_, append-nil}
 use native.Mathlib.Omega.{arith}
 use lib.ListN.{length}
 use Rattle.std.proofs.shelf.Tests.{le-leb, cond-true}

@@ -5,7 +5,7 @@ use lib.ListN.{length, getD, drop}
 use Prim.Native.Nat.{_+_}
 use native.Mathlib.Omega.{arith}
 use Rattle.std.proofs.shelf.Lists.{at-drop-more, at-drop-all}
-use Rattle.std.proofs.shelf.Tests.{eq-eqb, ne-eqb, le-leb, and-from, and-left, and-right, not-from-true}
+use Rattle.std.proofs.shelf.Tests.{eq-eqb, ne-eqb, le-leb, and-from, and-right}
 use Rattle.layout.specs.Rows.{no-zero}
 use Rattle.layout.proofs.rows.path_fits.Needs as need
 
