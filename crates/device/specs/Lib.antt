@@ -1,2 +1,4 @@
 pub mod Numbers
 pub mod Phrases
+pub mod Words
+pub mod ModuleCalls

@@ -1,9 +1,13 @@
-// What all parts of the log have in common: why a call is declined, by whom and where.
+// What all parts of the log have in common: why a call is declined, by whom and where; and what a module is.
 ghost use mathlib.Core.Path.{_≡_};
 ghost use Rattle.std.specs.declared.option.Option.the-variants.{Some};
 ghost use Rattle.device.specs.declared.Failure.the-variants.{Declined, NoMemory};
 ghost use Rattle.device.specs.Numbers.{number-of, layer-of};
 ghost use Rattle.device.specs.Phrases.{phrase-of, shown-fault};
+
+mod modules;
+
+pub use modules::Module;
 use std::alloc::AllocError;
 use std::alloc::Refused;
 use std::fmt;
