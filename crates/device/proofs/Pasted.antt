@@ -1,11 +1,10 @@
 -- The words of a list in which a run is replaced, one by one.
-use mathlib.Core.Path.{_≡_, sym, _∙_}
+use mathlib.Core.Path.{_≡_}
 use mathlib.Core.List.{List}
-use mathlib.Core.Logic.{⊎-elim}
+use mathlib.Core.Logic.{_⊎_, ⊎-elim}
 use Prim.Native.Nat.{ℕ, _+_, _-_, _≤_, _<_}
-use native.Mathlib.Omega.{arith}
 use borrow.Author.Needs.{needs}
-use lib.ListN.{length, take, drop}
+use lib.ListN.{length}
 use lib.Seq.{paste}
 use Rattle.std.proofs.shelf.Lists.{places}
 use Rattle.device.specs.Words.{word}
@@ -19,3 +18,6 @@ module _ (W : List ℕ) (i : ℕ) (ws : List ℕ) (n : ℕ) (h : i + n ≤ lengt
 
   pub paste-inside : (k : ℕ) → i ≤ k → k < i + n → word (paste W i ws n) k ≡ word ws (k - i)
   paste-inside k l b = search (needs, places)
+
+  pub paste-outside : (k : ℕ) → (k < i) ⊎ (i + n ≤ k) → word (paste W i ws n) k ≡ word W k
+  paste-outside k = ⊎-elim (paste-before k) (paste-after k)

@@ -2,7 +2,6 @@
 -- do what it is asked answers a refusal of layer 2, the module's, whose place is the word that the call was given. It asks its questions
 -- in this order: has power failed (22), is a word past the end (20), is a word that is to be stored unsettled (21).
 use mathlib.Core.Path.{_≡_}
-use mathlib.Core.List.{List}
 use mathlib.Core.Logic.{_⊎_}
 use mathlib.Core.Bool.{true, false}
 use Prim.Native.Nat.{ℕ, _+_, _≤_, _<_}

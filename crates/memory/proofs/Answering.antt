@@ -2,11 +2,11 @@
 use mathlib.Core.Path.{_≡_, refl, sym, ap, _∙_}
 use mathlib.Core.List.{List}
 use mathlib.Core.Logic.{_⊎_, inl, inr, ⊎-elim}
-use mathlib.Core.Bool.{Bool, true, false, not}
+use mathlib.Core.Bool.{true, false, not}
 use Prim.Native.Nat.{ℕ}
 use lib.Dec.{eqb}
 use Rattle.std.proofs.shelf.Tests.{cases-bool, and-parts}
-use Rattle.device.specs.Numbers.{number-of, refusal, told, Says}
+use Rattle.device.specs.Numbers.{number-of, refusal, Says}
 use Rattle.device.specs.ModuleCalls.{Failed, Declined, Done}
 use Rattle.device.specs.declared.Fault.{Fault}
 use Rattle.memory.specs.Plans.{Plan, used-up, lasts, drawn}

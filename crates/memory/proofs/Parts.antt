@@ -1,23 +1,21 @@
 -- What a store, a settle and a restart do to the part of two slices that both of them have.
-use mathlib.Core.Path.{_≡_, refl, sym, ap, _∙_, subst}
+use mathlib.Core.Path.{_≡_, refl, sym, ap, _∙_}
 use mathlib.Core.List.{List, [], _∷_, _++_}
 use mathlib.Core.Logic.{_⊎_, inl, inr, ⊎-elim}
-use mathlib.Core.Bool.{Bool, true, cond}
+use mathlib.Core.Bool.{true, cond}
 use Prim.Native.Nat.{ℕ, zero, suc, min, _+_, _-_, _≤_, _<_}
 use native.Mathlib.Omega.{arith}
-use borrow.Author.Needs.{needs}
-use lib.ListN.{length, getD, take, drop, set, take-append-drop, length-drop}
+use lib.ListN.{length, take, drop, set, take-append-drop, length-drop}
 use lib.Seq.{paste, take-add}
 use Rattle.std.proofs.shelf.Lists.{getD-take, getD-drop, length-set, length-take-le, ext-getD}
 use Rattle.std.proofs.shelf.Edits.{length-paste, paste-more}
 use Rattle.std.proofs.shelf.Counted.{fill-by-all}
 use Rattle.std.proofs.shelf.Tests.{cond-both, cases-lt}
-use Rattle.device.specs.Words.{Words, word, resting}
-use Rattle.device.proofs.Pasted.{paste-before, paste-inside, paste-after}
-use Rattle.device.specs.ModuleCalls.{Put, Firm}
+use Rattle.device.specs.Words.{word, resting}
+use Rattle.device.proofs.Pasted.{paste-inside, paste-outside}
+use Rattle.device.specs.ModuleCalls.{Firm}
 use Rattle.memory.specs.Plans.{Plan, bit-set, found-at, found-words}
 use Rattle.memory.specs.Meanings.{staged, shorter}
-use Rattle.memory.specs.Soundness.{found-is, found-long}
 
 -- words pasted over themselves
 pub paste-same : (W : List ℕ) (i c : ℕ) → W ≡ paste W i (drop i W) c
@@ -55,7 +53,7 @@ module _ (xs ys : List ℕ) (i c : ℕ) (hx : i + c ≤ length xs) (hy : i + c �
   run-inside k a b = paste-inside ys i (drop i xs) c hy enough k a b ∙ getD-drop i xs (k - i) 0 ∙ ap (word xs) (omega arith)
 
   run-outside : (k : ℕ) → (k < i) ⊎ (i + c ≤ k) → word (paste ys i (drop i xs) c) k ≡ word ys k
-  run-outside k = ⊎-elim (paste-before ys i (drop i xs) c hy enough k) (paste-after ys i (drop i xs) c hy enough k)
+  run-outside k = paste-outside ys i (drop i xs) c hy enough k
 
   pub run-long : length (paste ys i (drop i xs) c) ≡ length ys
   run-long = length-paste ys i (drop i xs) c hy enough

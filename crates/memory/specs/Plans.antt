@@ -1,6 +1,5 @@
 -- When a staged module loses its power, and what is then found. A life goes from one restart to the next, and allows a count of stores and
 -- settles before one fails, undone.
-use mathlib.Core.Path.{_≡_}
 use mathlib.Core.Bool.{Bool, true, false, not, cond, _&&_}
 use mathlib.Core.List.{List, [], _∷_, map}
 use Prim.Native.Nat.{ℕ, _-_, _/_, _%_, _^_}

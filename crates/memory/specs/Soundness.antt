@@ -4,21 +4,21 @@ use mathlib.Core.Path.{_≡_, refl, sym, _∙_}
 use mathlib.Core.Logic.{_⊎_, inl, inr, ⊎-elim}
 use Prim.Native.Nat.{ℕ, _<_}
 use native.Mathlib.Omega.{arith}
-use lib.ListN.{length, getD, take}
+use lib.ListN.{length, take}
 use Rattle.std.proofs.shelf.Counted.{getD-map-counting, length-map-counting}
 use Rattle.std.proofs.shelf.Lists.{getD-past, length-take-le}
 use Rattle.std.proofs.shelf.Tests.{cases-lt, cond-both}
-use Rattle.device.specs.Words.{Words, Sound, word, resting}
+use Rattle.device.specs.Words.{Sound, word, resting}
 use Rattle.memory.specs.Plans.{Plan, bit-set, found-at, found-words}
 use Rattle.memory.specs.Meanings.{shorter, staged}
 
 pub resting-sound : (W : List ℕ) → Sound (resting W)
 resting-sound W = record { sures = refl; founds = refl; chosen = λ i. inl refl }
 
-pub found-long : (p : ℕ) (xs ys : List ℕ) → length (found-words p xs ys) ≡ length xs
+found-long : (p : ℕ) (xs ys : List ℕ) → length (found-words p xs ys) ≡ length xs
 found-long p xs ys = length-map-counting (found-at p xs ys) 0 (length xs)
 
-pub found-is : (p : ℕ) (xs ys : List ℕ) (i : ℕ) → i < length xs → word (found-words p xs ys) i ≡ found-at p xs ys i
+found-is : (p : ℕ) (xs ys : List ℕ) (i : ℕ) → i < length xs → word (found-words p xs ys) i ≡ found-at p xs ys i
 found-is p xs ys i h = getD-map-counting (found-at p xs ys) 0 (length xs) i i 0 h (omega arith)
 
 found-one : (p : ℕ) (xs ys : List ℕ) (i : ℕ) → (word (found-words p xs ys) i ≡ word xs i) ⊎ (word (found-words p xs ys) i ≡ word ys i)

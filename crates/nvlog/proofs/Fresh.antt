@@ -1,30 +1,45 @@
 -- The words of an empty log.
-use mathlib.Core.Path.{_≡_, sym, ap, _∙_}
+use mathlib.Core.Path.{_≡_, refl, sym, ap, _∙_}
 use mathlib.Core.List.{List, _∷_, _++_}
-use Prim.Native.Nat.{ℕ, _+_, _-_, _*_}
+use Prim.Native.Nat.{ℕ, _+_, _*_, _≤_}
 use native.Mathlib.Omega.{arith}
-use lib.ListN.{length, take, replicate}
-use Rattle.std.proofs.shelf.Lists.{take-all, length-append, length-replicate, replicate-append-replicate}
+use lib.ListN.{length, drop, replicate}
+use lib.Seq.{paste}
+use Rattle.std.proofs.shelf.Edits.{paste-all}
+use Rattle.std.proofs.shelf.Lists.{drop-at, length-append, length-replicate, replicate-append-replicate}
 use Rattle.std.specs.declared.option.Option.the-variants.{Some}
 use Rattle.std.specs.declared.result.Result.the-variants.{Ok}
 use Rattle.layout.specs.Places.{width-of, width-for, header-words, header-for, empty-words}
 use Rattle.layout.proofs.Tellings.{cond-ok, cond-some}
 
+pub width-is : (n w : ℕ) → Ok w ≡ width-for n → w ≡ width-of n
+width-is n w given = cond-ok _ w (width-of n) _ given .1
+
 -- zeros for the rows, the tail and the entries
 zeros-apart : (n : ℕ) → replicate {A = ℕ} (81 + 68 * n) 0 ≡ replicate 80 0 ++ (0 ∷ replicate (68 * n) 0)
 zeros-apart n = sym (replicate-append-replicate {A = ℕ} 81 (68 * n) 0)
 
-pub fresh-words : (n w : ℕ) (first ws : List ℕ) → Ok w ≡ width-for n → Some first ≡ header-for n → ws ≡ take w first ++ replicate (w - length first) 0 → ws ≡ empty-words n
-fresh-words n w first ws width head given =
-    let is : w ≡ width-of n = cond-ok _ w (width-of n) _ width .1 in
-    let front : first ≡ header-words n = cond-some _ first (header-words n) head .1 in
-    let eight : length first ≡ 8 = ap length front in
-    let rest : w - length first ≡ 81 + 68 * n = omega arith in
-    given ∙ (λ i. take-all w first (omega arith) i ++ replicate (rest i) 0) ∙ (λ i. front i ++ zeros-apart n i)
+module _ (n w : ℕ) (first : List ℕ) (is : w ≡ width-of n) (head : Some first ≡ header-for n) where
+  front : first ≡ header-words n
+  front = cond-some _ first (header-words n) head .1
 
-pub fresh-length : (n w : ℕ) (ws : List ℕ) → Ok w ≡ width-for n → ws ≡ empty-words n → length ws ≡ w
-fresh-length n w ws width given =
-    let is : w ≡ width-of n = cond-ok _ w (width-of n) _ width .1 in
+  eight : length first ≡ 8
+  eight = ap length front
+
+  -- the header fits into the zeros
+  pub header-room : 0 + length first ≤ length (replicate {A = ℕ} w 0)
+  header-room = omega (arith, eight, length-replicate {A = ℕ} w 0)
+
+  -- zeros with a header in front
+  pub fresh-words : paste (replicate w 0) 0 first (length first) ≡ empty-words n
+  fresh-words =
+      let all : w ≡ 8 + (81 + 68 * n) = omega (arith, is) in
+      let split : replicate {A = ℕ} w 0 ≡ replicate 8 0 ++ replicate (81 + 68 * n) 0 = ap (λ k. replicate k 0) all ∙ sym (replicate-append-replicate {A = ℕ} 8 (81 + 68 * n) 0) in
+      let rest : drop (0 + length first) (replicate {A = ℕ} w 0) ≡ replicate (81 + 68 * n) 0 = (λ i. drop (0 + eight i) (split i)) ∙ drop-at (replicate {A = ℕ} 8 0) (replicate (81 + 68 * n) 0) 8 refl in
+      paste-all (replicate w 0) 0 first (length first) refl ∙ (λ i. front i ++ rest i) ∙ ap (λ l. header-words n ++ l) (zeros-apart n)
+
+pub fresh-length : (n : ℕ) → length (empty-words n) ≡ width-of n
+fresh-length n =
     let zeros : List ℕ = replicate (81 + 68 * n) 0 in
     let long : length (empty-words n) ≡ length (header-words n ++ zeros) = ap (λ l. length (header-words n ++ l)) (sym (zeros-apart n)) in
-    omega (arith, ap length given, long, length-append (header-words n) zeros, length-replicate {A = ℕ} (81 + 68 * n) 0)
+    omega (arith, long, length-append (header-words n) zeros, length-replicate {A = ℕ} (81 + 68 * n) 0)

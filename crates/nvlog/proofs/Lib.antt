@@ -1,3 +1,4 @@
+pub mod Storing
 pub mod Cuts
 pub mod Fresh
 pub mod Naming

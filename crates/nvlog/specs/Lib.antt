@@ -1,3 +1,5 @@
+pub mod Runs
 pub mod States
 pub mod Rows
 pub mod Writes
+pub mod Lines

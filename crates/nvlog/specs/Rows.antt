@@ -12,6 +12,7 @@ use Rattle.std.specs.declared.option.Option.the-variants.{Some, None}
 use Rattle.std.specs.declared.result.Result.{Result}
 use Rattle.std.specs.declared.result.Result.the-variants.{Ok, Err}
 use Rattle.device.specs.Numbers.{Says}
+use Rattle.device.specs.Words.{Words}
 use Rattle.device.specs.declared.Fault.{Fault}
 use Rattle.layout.specs.Places.{row-at}
 use Rattle.layout.specs.Rows.{path-fits, row-words}
@@ -48,3 +49,8 @@ Named s path (Err e) s′ =
     (s′ ≡ s)
     × (((path-fits path ≡ false) × Says e 4 0 0)
     ⊎ ((path-fits path ≡ true) × OwnRow (s .words) path None × FreeRow (s .words) None × Says e 7 3 16))
+
+-- the header and the rows of names are read, and nothing changes
+abbrev pub NamesRead : Words → Result (List ℕ) Fault → Words → Type 0
+NamesRead m (Ok ws) m′ = (ws ≡ take 88 (m .current)) × (m′ ≡ m)
+NamesRead m (Err e) m′ = ⊥

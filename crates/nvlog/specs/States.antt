@@ -1,8 +1,11 @@
 -- A log that is kept in words.
+use mathlib.Core.Path.{_≡_}
 use mathlib.Core.List.{List}
 use Prim.Native.Nat.{ℕ}
-use Rattle.std.specs.Of.Vec.{vec-items}
-use Rattle.layout.specs.Places.{empty-words}
+use lib.ListN.{length}
+use Rattle.memory.specs.Meanings.{battery-of}
+use Rattle.layout.specs.Places.{width-of, empty-words}
+use Rattle.nvlog.specs.declared.word_log.Circle.{Circle}
 use Rattle.nvlog.specs.declared.word_log.WordLog.{WordLog}
 
 -- a log: its number of entries, its words, its head, and how many entries and writes wait
@@ -13,8 +16,16 @@ pub record State : Type 0 where
   pub taken : ℕ
   pub writes : ℕ
 
+-- a circle of entries in the words W
+abbrev pub state-in : Circle → List ℕ → State
+state-in c W = record { entries = c .entries; words = W; head = c .head; taken = c .taken; writes = c .writes }
+
 abbrev pub state-of : WordLog → State
-state-of l = record { entries = l .entries; words = vec-items (l .words); head = l .head; taken = l .taken; writes = l .writes }
+state-of l = state-in (l .circle) (battery-of (l .memory) .current)
+
+-- the log has as many words as its entries need; every log that is made does, and no call changes it
+abbrev pub Fit : State → Type 0
+Fit s = length (s .words) ≡ width-of (s .entries)
 
 -- an empty log
 abbrev pub empty : ℕ → State

@@ -2,25 +2,30 @@
 use mathlib.Core.Path.{_≡_}
 use mathlib.Core.Bool.{cond}
 use mathlib.Core.List.{List}
+use mathlib.Core.Logic.{_⊎_}
 use Prim.Native.Nat.{ℕ, _+_, _-_, _%_}
 use lib.Dec.{ltb}
-use lib.ListN.{length}
+use lib.ListN.{length, take, drop}
 use Rattle.std.specs.declared.option.Option.{Option}
 use Rattle.std.specs.declared.option.Option.the-variants.{Some, None}
 use Rattle.std.specs.declared.result.Result.{Result}
 use Rattle.std.specs.declared.result.Result.the-variants.{Ok, Err}
-use Rattle.device.specs.Numbers.{Told, refusal, told}
+use Rattle.device.specs.Numbers.{Told, Says, refusal, told}
+use Rattle.device.specs.Words.{Words, width, resting}
+use Rattle.device.specs.declared.Fault.{Fault}
 use Rattle.device.specs.declared.Failure.{Failure}
 use Rattle.device.specs.declared.Failure.the-variants.{Declined, NoMemory}
 use Rattle.layout.specs.Entries.{Group}
-use Rattle.layout.specs.Groups.{laid}
-use Rattle.layout.specs.Places.{width-for}
+use Rattle.layout.specs.Groups.{words-upto, laid}
+use Rattle.layout.specs.Places.{width-of, width-for}
 use Rattle.layout.specs.Writes.{write-for, split-of}
 use Rattle.std.specs.Of.Vec.{vec-items}
-use Rattle.std.specs.declared.alloc.AllocError.{AllocError}
+use Rattle.std.specs.declared.vec.Vec.{Vec}
+use Rattle.std.specs.declared.alloc.Global.{Global}
 use Rattle.nvlog.specs.declared.word_log.Laid.{Laid as Place}
-use Rattle.nvlog.specs.declared.word_log.WordLog.{WordLog}
-use Rattle.nvlog.specs.States.{State, state-of, empty}
+use Rattle.nvlog.specs.declared.word_log.Circle.{Circle}
+use Rattle.nvlog.specs.States.{State, Fit, state-in, empty}
+use Rattle.nvlog.specs.Runs.{Ends}
 use Rattle.nvlog.specs.Rows.{taken-row}
 
 -- how many entries a write takes, or why it is declined, where `free` entries are free
@@ -43,10 +48,15 @@ after s g =
       writes = s .writes + 1;
     }
 
+-- the entries of a group stand from position p on, round a circle of n
+abbrev pub GroupPut : Words → ℕ → ℕ → ℕ → List ℕ → Words → Result Unit Fault → Type 0
+GroupPut m n p k group m′ r = (W : List ℕ) → m ≡ resting W → length W ≡ width-of n → (g : Group) → group ≡ words-upto g k → Ends m′ (laid n p g W k) r
+
 -- a group is laid out from the head on, or there is no memory for that
-abbrev pub LaidOut : State → Group → Result Place AllocError → State → Type 0
+abbrev pub LaidOut : State → Group → Result Place Failure → State → Type 0
 LaidOut s g (Ok p) s′ = (p .position ≡ s .head) × (p .entries ≡ length (g .pieces)) × (s′ ≡ after s g)
-LaidOut s g (Err e) s′ = s′ ≡ s
+LaidOut s g (Err (Declined e)) s′ = ⊥
+LaidOut s g (Err NoMemory) s′ = s′ ≡ s
 
 -- a write of a byte or more is laid out from the head on; any other leaves the log as it was
 abbrev pub Written : State → ℕ → ℕ → List ℕ → Result (Option Place) Failure → State → Type 0
@@ -56,8 +66,14 @@ Written s row offset bs (Ok None) s′ = (asked s row offset (length bs) ≡ Ok 
 Written s row offset bs (Err (Declined e)) s′ = (asked s row offset (length bs) ≡ Err (told e)) × (s′ ≡ s)
 Written s row offset bs (Err NoMemory) s′ = s′ ≡ s
 
--- a log of n entries is made, or n is declined
-abbrev pub Made : ℕ → Result WordLog Failure → Type 0
-Made n (Ok l) = (width-for n ≡ Ok (length (vec-items (l .words)))) × (state-of l ≡ empty n)
-Made n (Err (Declined e)) = width-for n ≡ Err (told e)
-Made n (Err NoMemory) = Unit {0}
+-- A log of n entries is made in the words of a battery, whatever they hold; or n is declined, or the width is not the one that n entries
+-- need, and nothing changes.
+abbrev pub Made : Words → ℕ → Words → Result Circle Fault → Type 0
+Made m n m′ (Ok c) = (width-for n ≡ Ok (width m)) × (state-in c (m′ .current) ≡ empty n) × Fit (state-in c (m′ .current))
+Made m n m′ (Err e) = ((width-for n ≡ Err (told e)) ⊎ (((width-for n ≡ Ok (width m)) → ⊥) × Says e 14 1 (width m))) × (m′ ≡ m)
+
+-- a copy of n words from word `from` on, as far as there are words; nothing changes
+abbrev pub Copied : State → ℕ → ℕ → Result (Vec ℕ Global) Failure → State → Type 0
+Copied s from n (Ok v) s′ = (vec-items v ≡ take n (drop from (s .words))) × (s′ ≡ s)
+Copied s from n (Err (Declined e)) s′ = ⊥
+Copied s from n (Err NoMemory) s′ = s′ ≡ s

@@ -1,87 +1,129 @@
 // Answers to commands.
+ghost use mathlib.Core.Path.{_≡_};
+ghost use Prim.Native.Nat.{_≤_};
+ghost use Rattle.std.specs.declared.result.Result.the-variants.{Ok};
+ghost use Rattle.layout.specs.Places.{width-for};
+ghost use Rattle.nvlog.specs.Lines.{left};
 use crate::command::Command;
 use crate::command::Step;
 use crate::command::parse;
+use crate::lines::Lines;
+use crate::reader::Found;
 use crate::reader::read_writes;
-use crate::slices::part;
+use crate::word_log::Circle;
 use crate::word_log::WordLog;
 use device::Failure;
 use device::Fault;
+use device::Module;
+use layout::log_width;
+use memory::Battery;
+use memory::BatteryModule;
 use std::alloc::Global;
 use std::error::AnyError;
 use std::io;
 use std::io::Write;
 
-#[derive(Drop)]
-pub struct Session {
-    heap: Global,
-    log: Option<WordLog>,
+// What was laid out in a log.
+#[derive(Clone, Copy)]
+struct Total {
+    writes: usize,
+    taken: usize,
+    free: usize,
 }
 
-impl Session {
-    pub fn new(heap: Global) -> Session {
-        Session { heap, log: None }
-    }
-
-    // Answers one line of input.
-    pub fn answer<W: Write>(&mut self, out: &mut W, line: &[u8]) -> Result<(), AnyError> {
-        let Some(command) = parse(line) else {
-            out.write_all(b"unreadable: ")?;
-            return Ok(end_line(out, line)?);
-        };
-        match command {
-            Command::Log { entries } => self.start(out, entries),
-            Command::Use(step) => self.take(out, step),
+// Answers each line of the input, and then says what was laid out in the last log.
+pub fn answer_all<W: Write>(
+    out: &mut W,
+    heap: Global,
+    lines: &mut Lines<'_>,
+) -> Result<(), AnyError> {
+    let mut total = Total {
+        writes: 0,
+        taken: 0,
+        free: 0,
+    };
+    while let Some(line) = lines.peek() {
+        lines.pass();
+        match parse(line) {
+            None => unreadable(out, line)?,
+            Some(Command::Use(_)) => end_line(out, b"no log yet")?,
+            Some(Command::Log { entries }) => match log_width(entries) {
+                Ok(width) => total = keep_log(out, heap, lines, entries, width)?,
+                Err(e) => declined(out, e)?,
+            },
         }
     }
+    let writes = total.writes;
+    let taken = total.taken;
+    let free = total.free;
+    writeln!(out, "total: {writes} writes, {taken} entries, {free} free")?;
+    Ok(())
+}
 
-    // Takes a step with the log, if there is one.
-    fn take<W: Write>(&mut self, out: &mut W, step: Step<'_>) -> Result<(), AnyError> {
-        match &mut self.log {
-            None => Ok(end_line(out, b"no log yet")?),
-            Some(log) => obey(out, self.heap, log, step),
+// Begins an empty log in words of its own, and answers the lines up to where the next log begins.
+fn keep_log<W: Write>(
+    out: &mut W,
+    heap: Global,
+    lines: &mut Lines<'_>,
+    entries: usize,
+    width: usize,
+) -> Result<Total, AnyError>
+    requires { ⌜ width-for entries ≡ Ok width ⌝ }
+    ensures { λ _. ⌜ left (now (lines .exit)) ≤ left (now (lines .entry)) ⌝ }
+{
+    let mut words = Vec::from_elem(heap, 0, width)?;
+    let mut memory = Battery::new(words.as_mut_slice());
+    let Ok(circle) = Circle::format(&mut memory, entries) else {
+        unreachable();
+    };
+    let mut log = WordLog { memory, circle };
+    writeln!(out, "log {entries}: {width} words")?;
+    serve(out, heap, &mut log, lines)?;
+    Ok(Total {
+        writes: log.circle.writes,
+        taken: log.circle.taken,
+        free: log.circle.free(),
+    })
+}
+
+// Answers the lines up to one that begins another log. A log that is declined leaves the one that is there.
+fn serve<W: Write>(
+    out: &mut W,
+    heap: Global,
+    log: &mut WordLog<'_>,
+    lines: &mut Lines<'_>,
+) -> Result<(), AnyError>
+    ensures { λ _. ⌜ left (now (lines .exit)) ≤ left (now (lines .entry)) ⌝ }
+{
+    while let Some(line) = lines.peek() {
+        match parse(line) {
+            None => unreadable(out, line)?,
+            Some(Command::Use(step)) => obey(out, heap, log, step)?,
+            Some(Command::Log { entries }) => match log_width(entries) {
+                Ok(_) => return Ok(()),
+                Err(e) => declined(out, e)?,
+            },
         }
+        lines.pass();
     }
-
-    // Begins an empty log in the place of the one that is there.
-    fn start<W: Write>(&mut self, out: &mut W, entries: usize) -> Result<(), AnyError> {
-        match WordLog::new(self.heap, entries) {
-            Ok(log) => {
-                let width = log.words.len();
-                self.log = Some(log);
-                writeln!(out, "log {entries}: {width} words")?;
-                Ok(())
-            }
-            Err(e) => failed(out, e),
-        }
-    }
-
-    // What was laid out, at the end of input.
-    pub fn total<W: Write>(&self, out: &mut W) -> Result<(), AnyError> {
-        let (writes, taken, free) = match &self.log {
-            Some(log) => (log.writes, log.taken, log.free()),
-            None => (0, 0, 0),
-        };
-        writeln!(out, "total: {writes} writes, {taken} entries, {free} free")?;
-        Ok(())
-    }
+    Ok(())
 }
 
 fn obey<W: Write>(
     out: &mut W,
     heap: Global,
-    log: &mut WordLog,
+    log: &mut WordLog<'_>,
     step: Step<'_>,
 ) -> Result<(), AnyError> {
     match step {
         Step::Name { path } => name(out, log, path),
         Step::Write { row, offset, text } => write(out, heap, log, row, offset, text),
-        Step::Words { from, count } => Ok(show_words(out, log.words.as_slice(), from, count)?),
-        Step::Back => show_writes(out, heap, log.words.as_slice()),
+        Step::Words { from, count } => show_words(out, heap, log, from, count),
+        Step::Back => show_writes(out, heap, log),
     }
 }
 
-fn name<W: Write>(out: &mut W, log: &mut WordLog, path: &[u8]) -> Result<(), AnyError> {
+fn name<W: Write>(out: &mut W, log: &mut WordLog<'_>, path: &[u8]) -> Result<(), AnyError> {
     match log.name(path) {
         Ok(row) => {
             write!(out, "row {row}: ")?;
@@ -94,7 +136,7 @@ fn name<W: Write>(out: &mut W, log: &mut WordLog, path: &[u8]) -> Result<(), Any
 fn write<W: Write>(
     out: &mut W,
     heap: Global,
-    log: &mut WordLog,
+    log: &mut WordLog<'_>,
     row: u64,
     offset: u64,
     text: &[u8],
@@ -111,17 +153,28 @@ fn write<W: Write>(
     }
 }
 
-fn show_words<W: Write>(out: &mut W, words: &[u64], from: usize, count: usize) -> io::Result<()> {
-    let mut i = from;
-    for w in part(words, from, count) {
-        writeln!(out, "word {i}: {w}")?;
-        i = i.saturating_add(1);
+fn show_words<W: Write>(
+    out: &mut W,
+    heap: Global,
+    log: &mut WordLog<'_>,
+    from: usize,
+    count: usize,
+) -> Result<(), AnyError> {
+    match log.copy(heap, from, count) {
+        Ok(words) => {
+            let mut i = from;
+            for w in words.iter() {
+                writeln!(out, "word {i}: {w}")?;
+                i = i.saturating_add(1);
+            }
+            Ok(())
+        }
+        Err(e) => failed(out, e),
     }
-    Ok(())
 }
 
-fn show_writes<W: Write>(out: &mut W, heap: Global, words: &[u64]) -> Result<(), AnyError> {
-    match read_writes(heap, words) {
+fn show_writes<W: Write>(out: &mut W, heap: Global, log: &mut WordLog<'_>) -> Result<(), AnyError> {
+    match found_writes(heap, log) {
         Ok(writes) => {
             for found in writes.iter() {
                 let row = found.row;
@@ -134,6 +187,18 @@ fn show_writes<W: Write>(out: &mut W, heap: Global, words: &[u64]) -> Result<(),
         }
         Err(e) => failed(out, e),
     }
+}
+
+// The writes that stand in the words of a log.
+fn found_writes(heap: Global, log: &mut WordLog<'_>) -> Result<Vec<Found>, Failure> {
+    let width = log.memory.width();
+    let words = log.copy(heap, 0, width)?;
+    read_writes(heap, words.as_slice())
+}
+
+fn unreadable<W: Write>(out: &mut W, line: &[u8]) -> io::Result<()> {
+    out.write_all(b"unreadable: ")?;
+    end_line(out, line)
 }
 
 // A refusal is an answer; want of memory ends the program.

@@ -1,22 +1,26 @@
-// A log kept in one Vec of words.
-ghost use mathlib.Core.Path.{_≡_};
-ghost use Prim.Native.Nat.{_+_, _*_, _≤_, _<_};
-ghost use Rattle.std.specs.Of.Vec.{vec-len};
+// A log kept in the words of a module.
+ghost use Prim.Native.Nat.{_≤_, _<_};
+use memory::Battery;
 
-// The words, and what is kept outside of them: the head, and how many entries and writes wait.
+// What is kept outside of the words: the number of entries, the head, and how many entries and writes wait.
 #[derive(Drop)]
-pub struct WordLog {
+pub struct Circle {
     pub entries: usize,
-    pub words: Vec<u64>,
     pub head: usize,
     pub taken: usize,
     pub writes: usize,
     ghost least: { 9 ≤ entries },
     ghost most: { entries ≤ 1024 },
-    ghost wide: { vec-len words ≡ 89 + 68 * entries },
     ghost on: { head < entries },
     ghost room: { taken < entries },
     ghost few: { writes ≤ taken },
+}
+
+// The words, and the circle of entries in them.
+#[derive(Drop)]
+pub struct WordLog<'a> {
+    pub memory: Battery<'a>,
+    pub circle: Circle,
 }
 
 // Where a write was laid out.
