@@ -1,2 +1,3 @@
 pub mod Pasted
 pub mod Resting
+pub mod Failing

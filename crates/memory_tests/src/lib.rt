@@ -1,4 +1,4 @@
-// The two modules, tried: what is found after a cut, when it comes, and what is declined.
+// The two modules, tried: what is found after a cut, when it comes, and what is declined; and a run of words that is cut.
 
 #[cfg(test)]
 mod tests {
@@ -8,6 +8,8 @@ mod tests {
     use device::Layer;
     use device::Module;
     use device::Refusal;
+    use log::load_run;
+    use log::put_run;
     use memory::Battery;
     use memory::BatteryModule;
     use memory::Staged;
@@ -167,15 +169,19 @@ mod tests {
         let mut sure = [0; 8];
         let mut module = Staged::new(&mut current, &mut sure, 0, NO_CUT);
         module.store(3, 1)?;
-        check(declines(module.store(3, 2), Refusal::UnsettledWord, 3))?;
-        check(declines(module.store(3, 1), Refusal::UnsettledWord, 3))?;
-        check(module.load(3)? == 1)?;
-        module.store(4, 1)?;
+        for v in [2, 1, 0] {
+            check(declines(module.store(3, v), Refusal::UnsettledWord, 3))?;
+        }
         module.settle(3, 1)?;
         module.store(3, 2)?;
-        check(declines(module.store(4, 2), Refusal::UnsettledWord, 4))?;
-        check(module.load(3)? == 2)?;
-        // A store of the value that is sure leaves the word settled.
+        check(module.load(3)? == 2)
+    }
+
+    #[test]
+    fn a_word_that_is_stored_as_it_was_is_settled() -> Result<(), Fail> {
+        let mut current = [0; 8];
+        let mut sure = [0; 8];
+        let mut module = Staged::new(&mut current, &mut sure, 0, NO_CUT);
         module.store(5, 0)?;
         module.store(5, 6)?;
         check(module.load(5)? == 6)
@@ -200,38 +206,66 @@ mod tests {
         check(module.load(7)? == 5)
     }
 
-    // What any module of 8 words declines.
-    fn tries_the_edges<M: Module>(module: &mut M) -> Result<(), Fail> {
-        check(module.width() == 8)?;
-        check(declines(module.load(8), Refusal::OutOfRange, 8))?;
-        check(declines(module.store(8, 1), Refusal::OutOfRange, 8))?;
-        check(declines(module.store(usize::MAX, 1), Refusal::OutOfRange, usize::MAX))?;
-        check(declines(module.settle(0, 9), Refusal::OutOfRange, 0))?;
-        check(declines(module.settle(9, 0), Refusal::OutOfRange, 9))?;
-        check(declines(module.settle(1, usize::MAX), Refusal::OutOfRange, 1))?;
-        check(declines(
-            module.settle(usize::MAX, usize::MAX),
-            Refusal::OutOfRange,
-            usize::MAX,
-        ))?;
-        module.settle(8, 0)?;
-        module.settle(0, 8)?;
+    // What any module of 8 words declines, and what it does at its end.
+    fn tries_the_end<M: Module>(module: &mut M) -> Result<(), Fail> {
+        for i in [8usize, usize::MAX] {
+            check(declines(module.load(i), Refusal::OutOfRange, i))?;
+            check(declines(module.store(i, 1), Refusal::OutOfRange, i))?;
+        }
+        for (i, c) in [
+            (0usize, 9usize),
+            (9, 0),
+            (1, usize::MAX),
+            (usize::MAX, usize::MAX),
+        ] {
+            check(declines(module.settle(i, c), Refusal::OutOfRange, i))?;
+        }
         module.store(7, 1)?;
-        module.settle(7, 1)?;
+        for (i, c) in [(8usize, 0usize), (7, 1), (0, 8)] {
+            module.settle(i, c)?;
+        }
         module.restart();
-        check(module.load(7)? == 1 && module.load(6)? == 0)
+        check(module.width() == 8 && module.load(7)? == 1)
     }
 
     #[test]
     fn past_the_end() -> Result<(), Fail> {
         let mut current = [0; 8];
         let mut sure = [0; 9];
-        tries_the_edges(&mut Staged::new(&mut current, &mut sure, 0, NO_CUT))?;
+        tries_the_end(&mut Staged::new(&mut current, &mut sure, 0, NO_CUT))?;
         let mut current = [0; 9];
         let mut sure = [0; 8];
-        tries_the_edges(&mut Staged::new(&mut current, &mut sure, 0, NO_CUT))?;
+        tries_the_end(&mut Staged::new(&mut current, &mut sure, 0, NO_CUT))?;
         let mut words = [0; 8];
-        tries_the_edges(&mut Battery::new(&mut words))
+        tries_the_end(&mut Battery::new(&mut words))
+    }
+
+    // A run of four words that are 1 becomes 9, with power for `count` stores and settles.
+    fn put_with_a_cut(pattern: u64, count: u64) -> Result<(), Fail> {
+        let mut current = [1; 8];
+        let mut sure = [1; 8];
+        let mut module = Staged::new(&mut current, &mut sure, pattern, [count; 4]);
+        // Four stores and a settle.
+        check(put_run(&mut module, 2, &[9; 4]).is_ok() == (count >= 5))?;
+        module.restart();
+        let mut found = [0; 8];
+        load_run(&mut module, 0, &mut found)?;
+        for (i, v) in found.iter().enumerate() {
+            let stored = i >= 2 && i < 6;
+            check(*v == 1 || (stored && *v == 9))?;
+            check(count < 5 || !stored || *v == 9)?;
+        }
+        Ok(())
+    }
+
+    #[test]
+    fn a_run_that_is_cut_is_found_old_or_new_word_by_word() -> Result<(), Fail> {
+        for pattern in [0, ALL_ONES, EVERY_OTHER] {
+            for count in 0..7 {
+                put_with_a_cut(pattern, count)?;
+            }
+        }
+        Ok(())
     }
 
     #[test]

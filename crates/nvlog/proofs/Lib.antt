@@ -1,5 +1,5 @@
-pub mod Storing
 pub mod Cuts
 pub mod Fresh
 pub mod Naming
 pub mod Laying
+pub mod Ending

@@ -25,7 +25,7 @@ use Rattle.std.specs.declared.alloc.Global.{Global}
 use Rattle.nvlog.specs.declared.word_log.Laid.{Laid as Place}
 use Rattle.nvlog.specs.declared.word_log.Circle.{Circle}
 use Rattle.nvlog.specs.States.{State, Fit, state-in, empty}
-use Rattle.nvlog.specs.Runs.{Ends}
+use Rattle.log.specs.Runs.{Dark}
 use Rattle.nvlog.specs.Rows.{taken-row}
 
 -- how many entries a write takes, or why it is declined, where `free` entries are free
@@ -48,9 +48,14 @@ after s g =
       writes = s .writes + 1;
     }
 
+-- the module rests with the words X, or power failed
+abbrev pub Ends : List ℕ → Words → Result Unit Fault → Type 0
+Ends X m (Ok u) = m ≡ resting X
+Ends X m (Err e) = Dark m e
+
 -- the entries of a group stand from position p on, round a circle of n
 abbrev pub GroupPut : Words → ℕ → ℕ → ℕ → List ℕ → Words → Result Unit Fault → Type 0
-GroupPut m n p k group m′ r = (W : List ℕ) → m ≡ resting W → length W ≡ width-of n → (g : Group) → group ≡ words-upto g k → Ends m′ (laid n p g W k) r
+GroupPut m n p k group m′ r = (W : List ℕ) → m ≡ resting W → length W ≡ width-of n → (g : Group) → group ≡ words-upto g k → Ends (laid n p g W k) m′ r
 
 -- a group is laid out from the head on, or there is no memory for that
 abbrev pub LaidOut : State → Group → Result Place Failure → State → Type 0

@@ -2,7 +2,6 @@
 mod command;
 mod lines;
 mod reader;
-mod runs;
 mod session;
 mod slices;
 mod word_log;

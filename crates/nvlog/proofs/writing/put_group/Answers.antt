@@ -7,7 +7,7 @@ use Rattle.device.specs.Words.{resting}
 use Rattle.layout.specs.Groups.{laid}
 use Rattle.layout.specs.Places.{entry-at}
 use Rattle.nvlog.proofs.Laying.{laid-more, entry-room}
-use Rattle.nvlog.proofs.Storing.{rests-as, ends-exit}
+use Rattle.nvlog.proofs.Ending.{rests-as, ends-exit}
 use Rattle.nvlog.proofs.writing.put_group.Needs as need
 
 pub loop-d-again : need.loop-d-again
@@ -30,7 +30,7 @@ returns-in-Break-put-run g c = λ W rest wide group given.
     let d = c .loop-d .d in
     ends-exit (laid n p group W (c .args .entries)) (g .M·Module .meaning (c .put-run .last .memory)) (c .in-Break-put-run .field-0 .0) (c .from-residual .result) (c .from-residual .ensures .1)
     (c .in-Break-put-run .ensures tt .put (laid n p group W d) (c .loop-d .inv W rest wide group given)
-    (entry-room n p (c .args .entries) d group W (c .args .group .now) (c .part .result .now) (c .pre .least .0) wide (c .loop-d-test .taken) given (c .part .ensures)))
+    (entry-room n p (c .args .entries) d group W (c .args .group .now) (c .part .result .now) (c .pre .least .0) wide (c .loop-d-test .taken) given (c .part .ensures)) .failed)
 
 pub returns : need.returns
 returns g c = λ W rest wide group given.

@@ -1,5 +1,5 @@
 use denote.Ref.{now}
-use mathlib.Core.Path.{_≡_, refl, ap, _∙_}
+use mathlib.Core.Path.{_≡_, ap, _∙_}
 use native.Mathlib.Omega.{arith}
 use lib.ListN.{length, take, drop}
 use Rattle.std.proofs.shelf.Lists.{refilled-is}
@@ -17,8 +17,8 @@ returns c =
     let lent = c .as-mut-slice .ensures .len in
     let many : length (c .as-mut-slice .result .now) ≡ c .min .result = lent ∙ c .in-Continue-words .ensures tt .made .1 in
     let wide = c .width-width .ensures in
-    let read = c .in-Continue-load-run .ensures tt .loaded W refl (omega (arith, many, c .min-start .ensures, c .min .ensures, wide)) in (
-      refilled-is v out (c .load-run .kept .out ∙ lent) ∙ read .1 ∙ ap (λ n. take n (drop start W)) many
+    let read = c .in-Continue-load-run .ensures tt .loaded (omega (arith, many, c .min-start .ensures, c .min .ensures, wide)) in (
+      refilled-is v out (c .load-run .kept .out ∙ lent) ∙ read .2 ∙ ap (λ n. take n (drop start W)) many
           ∙ cut W (c .args .from) (c .args .count) start (c .min .result) (omega (arith, c .min-start .ensures, wide)) (omega (arith, c .min .ensures, wide)),
-      ap (λ m. state-in (log .circle) (m .current)) (read .0),
+      ap (state-in (log .circle)) (read .1 .current),
     )

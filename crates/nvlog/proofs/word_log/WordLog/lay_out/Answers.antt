@@ -10,7 +10,7 @@ use Rattle.std.specs.Options.{mapped}
 use Rattle.layout.specs.Entries.{plain, group-of}
 use Rattle.layout.specs.Groups.{laid}
 use Rattle.nvlog.proofs.Laying.{fit-few, group-given}
-use Rattle.nvlog.proofs.Storing.{not-dark}
+use Rattle.nvlog.proofs.Ending.{not-dark}
 use Rattle.nvlog.proofs.word_log.WordLog.lay_out.Needs as need
 
 pub put-group-requires : need.put-group-requires

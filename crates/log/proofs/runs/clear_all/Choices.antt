@@ -4,8 +4,8 @@ use Prim.Native.Nat.{ℕ}
 use lib.ListN.{length, replicate}
 use lib.Seq.{paste}
 use Rattle.device.specs.Words.{resting}
-use Rattle.nvlog.proofs.Storing.{Storing}
-use Rattle.nvlog.proofs.runs.clear_all.Given as given
+use Rattle.log.proofs.Storing.{Storing}
+use Rattle.log.proofs.runs.clear_all.Given as given
 
 abbrev pub Inv-loop-i : given.InvT-loop-i
 Inv-loop-i g l = let m = g .M·Module .meaning in

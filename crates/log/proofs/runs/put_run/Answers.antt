@@ -3,8 +3,8 @@ use native.Mathlib.Omega.{arith}
 use lib.ListN.{length}
 use lib.Seq.{paste}
 use Rattle.std.proofs.shelf.Edits.{paste-none}
-use Rattle.nvlog.proofs.Storing.{Storing, storing-none, run-more, run-dark, run-ends, ends-exit}
-use Rattle.nvlog.proofs.runs.put_run.Needs as need
+use Rattle.log.proofs.Storing.{Storing, storing-none, run-more, run-cut, run-moves, moves-exit}
+use Rattle.log.proofs.runs.put_run.Needs as need
 
 pub loop-i-holds : need.loop-i-holds
 loop-i-holds g c = λ W rest room.
@@ -26,8 +26,8 @@ returns-in-Break-store g c =
     let m′ = g .M·Module .meaning (c .store .last .self) in
     record {
       put = λ W rest room.
-          ends-exit (paste W start run (length run)) m′ e (c .from-residual .result) (c .from-residual .ensures .1)
-          (run-dark W start run m m′ room (c .loop-i .i) (c .loop-i .inv W rest room) (c .loop-i-test .taken) e (c .in-Break-store .ensures tt));
+          moves-exit W (paste W start run (length run)) m′ e (c .from-residual .result) (c .from-residual .ensures .1)
+          (run-cut W start run m m′ room (c .loop-i .i) (c .loop-i .inv W rest room) (c .loop-i-test .taken) (g .M·Module .sound (c .store .last .self)) e (c .in-Break-store .ensures tt));
       no-room = λ past. absurd (omega (arith, c .width-width .ensures));
     }
 
@@ -37,7 +37,7 @@ returns g c =
     let last = c .settle .last .self in
     record {
       put = λ W rest room.
-          run-ends W (c .args .start) run (g .M·Module .meaning (c .loop-i .memory)) (g .M·Module .meaning last) room (c .loop-i .i) (omega arith)
+          run-moves W (c .args .start) run (g .M·Module .meaning (c .loop-i .memory)) (g .M·Module .meaning last) room (c .loop-i .i) (omega arith)
           (c .loop-i .inv W rest room) (g .M·Module .sound last) (c .settle .result) (c .settle .ensures);
       no-room = λ past. absurd (omega (arith, c .width-width .ensures));
     }
