@@ -1,5 +1,6 @@
 -- What a module means: a memory of words that may lose its power. It is lit or dark, and each word has three values: the current one,
--- which a load answers; the sure one, which no power failure takes away; and the found one, which the next restart will find.
+-- which a load answers; the sure one, which a power failure leaves, if it does not leave the current one; and the found one, which the
+-- next restart will find.
 use mathlib.Core.Path.{_≡_}
 use mathlib.Core.List.{List}
 use mathlib.Core.Logic.{_⊎_}
