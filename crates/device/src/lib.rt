@@ -1,4 +1,6 @@
 // What all parts of the log have in common: why a call is declined, by whom and where; and what a module and a shelf are.
+#![tactic(auto)]
+
 ghost use Rattle.std.specs.Prelude.{◌≡◌, Some};
 ghost use Rattle.device.specs.declared.Failure.TheVariants.{Declined, NoMemory};
 ghost use Rattle.device.specs.Numbers.{number_of, layer_of};

@@ -1,4 +1,6 @@
 // What is done with files on any shelf: bytes are put into a path's file, and a whole file is read.
+#![tactic(auto)]
+
 ghost use Rattle.files.specs.Filing.{HasPut, HasFetched};
 
 use device::{Failure, Fault, Layer, Refusal, Shelf};

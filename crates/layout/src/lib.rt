@@ -1,4 +1,6 @@
 // The words of the log's format.
+#![tactic(auto)]
+
 ghost use Rattle.layout.specs.Examples.{Holds, examples};
 
 mod entries;

@@ -1,4 +1,6 @@
 // Two modules over lent words: one that never loses its power, and one that loses it when told to.
+#![tactic(auto)]
+
 mod battery;
 mod faults;
 mod power;

@@ -3,7 +3,7 @@
 #[cfg(test)]
 mod tests {
     use device::{Fault, Layer, Module, Refusal};
-    use log::{load_run, put_run};
+    use write_log::{load_run, put_run};
     use memory::{Battery, Staged};
     use std::process::Abort;
     use std::test::Fail;

@@ -2,7 +2,7 @@
 use Rattle.std.proofs.Common.{◌≡◌, ℕ, cond, List, IsErrAnd, Ok, Err, Result, sym, ap, ◌∙◌, subst, arith}
 use Rattle.device.specs.Words.{Words, resting}
 use Rattle.device.specs.declared.Fault.{Fault}
-use Rattle.log.specs.Runs.{Dark}
+use Rattle.write_log.specs.Runs.{Dark}
 use Rattle.nvlog.specs.Writes.{Ends}
 
 pub rests_as : (X Y : List ℕ) (m : Words) → m ≡ resting X → X ≡ Y → m ≡ resting Y

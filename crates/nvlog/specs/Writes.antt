@@ -13,7 +13,7 @@ use Rattle.std.specs.declared.alloc.Global.{Global}
 use Rattle.nvlog.specs.declared.word_log.Laid.{Laid as Place}
 use Rattle.nvlog.specs.declared.word_log.Circle.{Circle}
 use Rattle.nvlog.specs.States.{State, Fit, state_in, empty}
-use Rattle.log.specs.Runs.{Dark}
+use Rattle.write_log.specs.Runs.{Dark}
 use Rattle.nvlog.specs.Rows.{taken_row}
 
 -- how many entries a write takes, or why it is declined, where `free` entries are free

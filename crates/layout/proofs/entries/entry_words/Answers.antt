@@ -22,9 +22,9 @@ returns-then-not-entry-fits c =
 
 pub returns : goal.returns
 returns c =
-    let is = entry_given c.args.row c.args.d c.args.pieces.now c.mark-of-mark.result _ c.if-d-k.false c.mark-of-mark.ensures in
-    let fits = sym c.if-not-entry-fits.ensures in
-    let told = c.words-of.ensures in
+    let is = entry_given c.args.row c.args.d c.args.pieces.now c.mark_of-mark.result _ c.if-d-k.false c.mark_of-mark.ensures in
+    let fits = sym c.if-not-entry_fits.ensures in
+    let told = c.words_of.ensures in
     record {
       words = ap (λ ws. Some ws) told.words ∙ words_given c.args.row c.args.d c.args.pieces.now _ is c.if-k-gt-MOST-GROUP.false c.if-d-k.false fits;
       reads-back = ap read_entry told.words ∙ read_entry-entry_words _ told.small fits ∙ ap (λ e. Some e) (sym is);

@@ -30,9 +30,9 @@ returns-then-not-same-words c =
 pub returns : goal.returns
 returns c =
     let ws = c.args.words.now in
-    let cut = cut_out ws c.unpack-front-bytes.result 4 64 (get_or ws 3 0) 512 c.if-words-ne68.false (few ws c.if-not-entry-fits.ensures) c.unpack-front-bytes.ensures in
-    let again = c.words-of-again.ensures.words ∙ ap (λ (bs : List ℕ). entry_words (record { mark = get_or ws 0 0; row = get_or ws 1 0; offset = get_or ws 2 0; bytes = bs })) cut.0 in (
+    let cut = cut_out ws c.unpack_front-bytes.result 4 64 (get_or ws 3 0) 512 c.if-words-ne68.false (few ws c.if-not-entry_fits.ensures) c.unpack_front-bytes.ensures in
+    let again = c.words_of-again.ensures.words ∙ ap (λ (bs : List ℕ). entry_words (record { mark = get_or ws 0 0; row = get_or ws 1 0; offset = get_or ws 2 0; bytes = bs })) cut.0 in (
       said ws,
-      an_entry ws (sym (fits_said ws) ∙ sym c.if-not-entry-fits.ensures) (ap (bytes_eq ws) (sym again) ∙ sym c.if-not-same-words.ensures),
-      record { mark = refl; row = refl; offset = refl; count = sym (length-unpacked (get_or ws 3 0) (drop 4 ws)); few = few ws c.if-not-entry-fits.ensures; front = cut.1 },
+      an_entry ws (sym (fits_said ws) ∙ sym c.if-not-entry_fits.ensures) (ap (bytes_eq ws) (sym again) ∙ sym c.if-not-same-words.ensures),
+      record { mark = refl; row = refl; offset = refl; count = sym (length-unpacked (get_or ws 3 0) (drop 4 ws)); few = few ws c.if-not-entry_fits.ensures; front = cut.1 },
     )

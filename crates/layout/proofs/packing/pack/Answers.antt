@@ -11,7 +11,7 @@ loop-j-preserved c =
     let ws = c.loop-j.words in
     let j = c.loop-j.j in
     let lt : j < length ws = omega (arith, c.loop-j-test.true, c.loop-j.auto.words) in
-    λ k h. subst (λ v. get_or (set ws j v) k 0 ≡ f k) (sym c.word-of.ensures) (fill_by_more f ws j 0 lt c.loop-j.invariant k h)
+    λ k h. subst (λ v. get_or (set ws j v) k 0 ≡ f k) (sym c.word_of.ensures) (fill_by_more f ws j 0 lt c.loop-j.invariant k h)
 
 pub returns-then-div-ceil-words : goal.returns-then-div-ceil-words
 returns-then-div-ceil-words c = record {
@@ -21,6 +21,6 @@ returns-then-div-ceil-words c = record {
 
 pub returns : goal.returns
 returns c = record {
-  fits = sym (le-leb (length c.args.bytes.now) (8 * length c.args.words.now) (omega (arith, c.div-ceil.ensures, c.if-div-ceil-words.false)));
+  fits = sym (le-leb (length c.args.bytes.now) (8 * length c.args.words.now) (omega (arith, c.div_ceil.ensures, c.if-div_ceil-words.false)));
   after = packed_by (length c.args.words.now) c.args.bytes.now c.loop-j.words c.loop-j.auto.words (λ k h. c.loop-j.invariant k (omega (arith, c.loop-j-test.false)));
 }

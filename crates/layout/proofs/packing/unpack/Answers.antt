@@ -11,7 +11,7 @@ loop-i-preserved c =
     let bs = c.loop-i.bytes in
     let i = c.loop-i.i in
     let lt : i < length bs = omega (arith, c.loop-i-test.true, c.loop-i.auto.bytes) in
-    λ k h. subst (λ v. get_or (set bs i v) k 0 ≡ f k) (sym c.byte-of.ensures) (fill_by_more f bs i 0 lt c.loop-i.invariant k h)
+    λ k h. subst (λ v. get_or (set bs i v) k 0 ≡ f k) (sym c.byte_of.ensures) (fill_by_more f bs i 0 lt c.loop-i.invariant k h)
 
 pub returns-then-div-ceil-words : goal.returns-then-div-ceil-words
 returns-then-div-ceil-words c = record {
@@ -21,6 +21,6 @@ returns-then-div-ceil-words c = record {
 
 pub returns : goal.returns
 returns c = record {
-  fits = sym (le-leb (length c.args.bytes.now) (8 * length c.args.words.now) (omega (arith, c.div-ceil.ensures, c.if-div-ceil-words.false)));
+  fits = sym (le-leb (length c.args.bytes.now) (8 * length c.args.words.now) (omega (arith, c.div_ceil.ensures, c.if-div_ceil-words.false)));
   after = unpacked_by (length c.args.bytes.now) c.args.words.now c.loop-i.bytes c.loop-i.auto.bytes (λ k h. c.loop-i.invariant k (omega (arith, c.loop-i-test.false)));
 }

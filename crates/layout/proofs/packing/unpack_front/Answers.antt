@@ -18,9 +18,9 @@ loop-i-preserved g c =
     let bs = c.loop-i.bytes in
     let i = c.loop-i.i in
     let lt : i < length bs = omega (arith, c.loop-i-test.true, c.min-i-end.ensures, c.loop-i.invariant.0) in (
-      length-set bs i c.byte-of.result ∙ c.loop-i.invariant.0,
-      λ k h. subst (λ v. get_or (set bs i v) k 0 ≡ f k) (sym c.byte-of.ensures) (fill_by_more f bs i 0 lt c.loop-i.invariant.1 k h),
-      λ k h. get_or-set_other bs i k c.byte-of.result 0 (λ e. omega arith) ∙ c.loop-i.invariant.2 k (omega arith),
+      length-set bs i c.byte_of.result ∙ c.loop-i.invariant.0,
+      λ k h. subst (λ v. get_or (set bs i v) k 0 ≡ f k) (sym c.byte_of.ensures) (fill_by_more f bs i 0 lt c.loop-i.invariant.1 k h),
+      λ k h. get_or-set_other bs i k c.byte_of.result 0 (λ e. omega arith) ∙ c.loop-i.invariant.2 k (omega arith),
     )
 
 pub returns : goal.returns

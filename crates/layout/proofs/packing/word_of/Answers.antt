@@ -9,5 +9,5 @@ returns-then-j-bytes c = sym (ap (λ l. low_first (take 8 l)) (drop_all (8 * c.a
 
 pub returns : goal.returns
 returns c =
-    c.low-first-word.ensures
+    c.low_first_word.ensures
     ∙ ap low_first (part_from 8 (8 * c.args.j) c.min-to.result c.args.bytes.now (omega (arith, c.if-j-bytes.false)) c.min-to.ensures)

@@ -29,9 +29,9 @@ returns-then-not-same-words c =
 pub returns : goal.returns
 returns c =
     let ws = c.args.words.now in
-    let cut = cut_out ws c.unpack-front-bytes.result 1 4 (get_or ws 0 0) 32 (omega arith) (omega arith) c.unpack-front-bytes.ensures in
+    let cut = cut_out ws c.unpack_front-bytes.result 1 4 (get_or ws 0 0) 32 (omega arith) (omega arith) c.unpack_front-bytes.ensures in
     let row = row_given (said_path ws) c.in-Ok.again (c.in-Ok.ensures.words ∙ ap row_of cut.0) in (
       said_path ws,
-      a_path ws row.0 (ap (bytes_eq ws) (sym row.1) ∙ sym c.if-not-same-words.ensures),
+      a_path ws row.0 (ap (bytes_eq ws) (sym row.1) ∙ sym c.if-not-same_words.ensures),
       record { long = sym (length-unpacked (get_or ws 0 0) (drop 1 ws)); few = omega arith; front = cut.1 },
     )

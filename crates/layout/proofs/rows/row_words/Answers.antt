@@ -8,11 +8,11 @@ pub returns : goal.returns
 unfolding row_words
 returns c =
     let path = c.args.path.now in
-    let fits = sym c.if-not-path-fits.ensures in
+    let fits = sym c.if-not-path_fits.ensures in
     let few = (and_parts (leb (length path) 32) _ (and_parts (leb 1 (length path)) _ fits).1).0 in
     let is : (length path ∷ (c.pack.new.words ++ [])) ≡ row_words path =
     ap (λ ws. length path ∷ ws) (append-nil c.pack.new.words ∙ c.pack.ensures.after ∙ cond-true c.pack.result _ _ (c.pack.ensures.fits ∙ few)) in
     record {
       words = ap (λ ws. Ok ws) is ∙ sym (cond-true _ _ _ fits);
-      reads-back = ap read_path is ∙ read_path-row_words path (λ i. omega (arith, c.type-inv.path i)) fits;
+      reads_back = ap read_path is ∙ read_path-row_words path (λ i. omega (arith, c.ok.path i)) fits;
     }

@@ -9,6 +9,6 @@ returns c =
     let bs = c.args.bytes.now in
     let d = c.args.d in
     let cut = part_from 512 (512 * d) c.min-to.result bs (omega arith) c.min-to.ensures in
-    let at = c.in-ok-offset.ensures in
+    let at = c.in_ok-offset.ensures in
     (λ i. Some (record { offset = at.1 i; bytes = cut i }))
     ∙ sym (cond-true _ _ _ (and_from (ltb d (entries_for (length bs))) _ (lt-ltb d (entries_for (length bs)) (omega (arith, c.if-d-bytes.false))) (lt-ltb (c.args.offset + 512 * d) (2 ^ 64) at.0)))

@@ -18,7 +18,7 @@ loop-piece-preserved c =
     let f = piece_of offset bs in
     let given = piece_given offset bs c.len.result (plain c.in-Some.piece) c.in-Some.ensures in
     let is : plain c.in-Some.piece ≡ f d = given.0 ∙ ap f c.len.ensures in
-    let pushed = c.in-ok-push.ensures in (
+    let pushed = c.in_ok-push.ensures in (
       ap (map plain) pushed.items ∙ map_push plain (vec_items v) c.in-Some.piece
           ∙ (λ i. (c.loop-piece.invariant.0 i) ++ (is i ∷ []))
           ∙ sym (map-range_with_len_more f 0 d d (omega arith))
@@ -33,13 +33,13 @@ returns c =
     let offset = c.args.offset in
     let bs = c.args.bytes.now in
     let v = c.loop-piece.pieces in
-    let taken = c.in-ok-entries-for.ensures in
-    let k = c.in-ok-entries-for.field-0 in
+    let taken = c.in_ok-entries_for.ensures in
+    let k = c.in_ok-entries_for.field-0 in
     let small : limit < 2 ^ 64 = omega arith in
     let all : entries_for (length bs) ≤ vec_len v =
     ⊎_elim (λ h. omega (arith, c.len.ensures))
     (λ h. ⊎_elim (λ lt. absurd (omega (arith, c.len.ensures, taken_offset limit offset (length bs) k small taken (vec_len v) lt))) (λ le. le) (cases_lt (vec_len v) (entries_for (length bs))))
-    (no_piece_given offset bs c.len.result c.in-default.ensures) in
+    (no_piece_given offset bs c.len.result c.in_default.ensures) in
     let end : vec_len v ≡ entries_for (length bs) = omega (arith, c.loop-piece.invariant.1) in
     let pieces : map plain (vec_items v) ≡ split_of offset bs = c.loop-piece.invariant.0 ∙ ap (λ n. map (piece_of offset bs) (range_with_len 0 n)) end in
     record {

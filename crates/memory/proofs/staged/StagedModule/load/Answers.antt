@@ -10,7 +10,7 @@ returns c =
     let i = c.args.i in
     let lt : i < shorter xs ys = omega (arith, c.width.ensures, shorter_long xs ys, c.if-i-width.false) in
     record {
-      0 = record {
+      loaded = record {
         lit = c.if-not-self.false;
         lit_after = c.if-not-self.false;
         asked = omega (arith, shorter_long xs ys);

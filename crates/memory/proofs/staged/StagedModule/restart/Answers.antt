@@ -44,6 +44,6 @@ returns c =
     let after : p' ≡ renewed p = c.renew.ensures s'.pattern ∙ (λ t. renewed (plan (inv.0 t) (inv.1 t))) in
     let end : shorter xs ys ≤ c.loop-i.i = omega (arith, c.width-w.ensures, shorter_long xs ys, c.loop-i-test.false) in
     record {
-      0 = restarted p xs ys p' s'.current.now s'.sure.now (ap (λ q. q.on) after) a b (λ k h. inv.2 k (omega arith)) (λ k h. inv.3 k (omega arith));
+      restarted = restarted p xs ys p' s'.current.now s'.sure.now (ap (λ q. q.on) after) a b (λ k h. inv.2 k (omega arith)) (λ k h. inv.3 k (omega arith));
       planned = after;
     }

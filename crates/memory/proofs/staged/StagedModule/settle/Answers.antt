@@ -16,8 +16,8 @@ returns-then-not-draw c =
     let p = plan s.power s.pattern in
     let p' = plan c.draw.new.self s.pattern in
     record {
-      0 = inl (no_power p p' s.current.now s.sure.now after c.at-word.result c.args.i _ c.at-word.ensures lasts);
-      fails = says_failed c.at-word.result 22 c.args.i c.at-word.ensures ∙ ap not lasts;
+      settled = inl (no_power p p' s.current.now s.sure.now after c.at_word.result c.args.i _ c.at_word.ensures lasts);
+      fails = says_failed c.at_word.result 22 c.args.i c.at_word.ensures ∙ ap not lasts;
       planned = after;
     }
 
@@ -28,14 +28,14 @@ returns-then-i-w c =
     let ys = s.sure.now in
     let lasts = c.if-not-draw.ensures.lasts s.pattern in
     let after = c.if-not-draw.ensures.after s.pattern in
-    let e = c.at-word-then-i-w.result in
-    let says = c.at-word-then-i-w.ensures in
+    let e = c.at_word-then-i-w.result in
+    let says = c.at_word-then-i-w.ensures in
     let past : shorter xs ys < c.args.i + c.args.c = elim c.then-i-w.branch [
       | then-i-w-via-then-i-w w ↦ omega (arith, c.width-w.ensures, shorter_long xs ys, w.if-i-w.true)
       | then-i-w-via-else-i-w+then-c-w w ↦ omega (arith, c.width-w.ensures, shorter_long xs ys, w.if-i-w.false, w.if-c-w.true)
     ] in
     record {
-      0 = inr (not_done (plan s.power s.pattern) (plan c.draw.new.self s.pattern) xs ys after e 20 c.args.i _ says lasts (omega (arith, shorter_long xs ys, past)));
+      settled = inr (not_done (plan s.power s.pattern) (plan c.draw.new.self s.pattern) xs ys after e 20 c.args.i _ says lasts (omega (arith, shorter_long xs ys, past)));
       fails = says_failed e 20 c.args.i says ∙ ap not lasts;
       planned = after;
     }
@@ -72,7 +72,7 @@ returns c =
     let fits : i + n ≤ shorter xs ys = omega (arith, c.width-w.ensures, shorter_long xs ys, c.if-i-w.false, c.if-c-w.false) in
     let end : c.loop-k.k ≡ n = omega (arith, c.loop-k-test.false, c.loop-k.auto.k-end) in
     record {
-      0 = done p p' xs ys after s'.current.now s'.sure.now _ _ lasts (omega (arith, shorter_long xs ys, fits))
+      settled = done p p' xs ys after s'.current.now s'.sure.now _ _ lasts (omega (arith, shorter_long xs ys, fits))
           (copied p p' xs ys s'.current.now s'.sure.now i n fits inv.0 (inv.3 ∙ ap (paste ys i (drop i xs)) end));
       fails = ap not lasts;
       planned = after;

@@ -12,8 +12,8 @@ returns-then-not-draw c =
     let p = plan s.power s.pattern in
     let p' = plan c.draw.new.self s.pattern in
     record {
-      0 = inl (no_power p p' s.current.now s.sure.now after c.at-word.result c.args.i _ c.at-word.ensures lasts);
-      fails = says_failed c.at-word.result 22 c.args.i c.at-word.ensures ∙ ap not lasts;
+      stored = inl (no_power p p' s.current.now s.sure.now after c.at_word.result c.args.i _ c.at_word.ensures lasts);
+      fails = says_failed c.at_word.result 22 c.args.i c.at_word.ensures ∙ ap not lasts;
       planned = after;
       unsure = refl;
     }
@@ -27,10 +27,10 @@ returns-then-i-width c =
     let after = c.if-not-draw.ensures.after s.pattern in
     let p = plan s.power s.pattern in
     let p' = plan c.draw.new.self s.pattern in
-    let e = c.at-word-then-i-width.result in
-    let says = c.at-word-then-i-width.ensures in
+    let e = c.at_word-then-i-width.result in
+    let says = c.at_word-then-i-width.ensures in
     record {
-      0 = inr (inl (not_done p p' xs ys after e 20 c.args.i _ says lasts (omega (arith, shorter_long xs ys, c.width.ensures, c.if-i-width.true))));
+      stored = inr (inl (not_done p p' xs ys after e 20 c.args.i _ says lasts (omega (arith, shorter_long xs ys, c.width.ensures, c.if-i-width.true))));
       fails = says_failed e 20 c.args.i says ∙ ap not lasts;
       planned = after;
       unsure = refl;
@@ -47,11 +47,11 @@ returns-then-self-i c =
     let after = c.if-not-draw.ensures.after s.pattern in
     let p = plan s.power s.pattern in
     let p' = plan c.draw.new.self s.pattern in
-    let e = c.at-word-then-self-i.result in
-    let says = c.at-word-then-self-i.ensures in
+    let e = c.at_word-then-self-i.result in
+    let says = c.at_word-then-self-i.ensures in
     let lt : i < w = omega (arith, c.width.ensures, shorter_long xs ys, c.if-i-width.false) in
     record {
-      0 = inr (inr (not_done p p' xs ys after e 21 i _ says lasts
+      stored = inr (inr (not_done p p' xs ys after e 21 i _ says lasts
           (omega (arith, shorter_long xs ys), λ same. c.if-self-i.true (sym (word_of w xs i lt) ∙ same ∙ word_of w ys i lt))));
       fails = says_failed e 21 i says ∙ ap not lasts;
       planned = after;
@@ -73,7 +73,7 @@ returns c =
     let lt : i < w = omega (arith, c.width.ensures, shorter_long xs ys, c.if-i-width.false) in
     let same : get_or xs i 0 ≡ get_or ys i 0 = search rules in
     record {
-      0 = done p p' xs ys after _ ys _ _ lasts (omega (arith, shorter_long xs ys), word_of w xs i lt ∙ same ∙ sym (word_of w ys i lt))
+      stored = done p p' xs ys after _ ys _ _ lasts (omega (arith, shorter_long xs ys), word_of w xs i lt ∙ same ∙ sym (word_of w ys i lt))
           record { current = stored_current xs ys i v; sure = inl (stored_sure xs ys i v) };
       fails = ap not lasts;
       planned = after;

@@ -1,8 +1,8 @@
 use Rattle.std.proofs.Common.{length, subst, arith}
 use lib.Seq.{paste}
 use Rattle.std.proofs.lemmas.List.Edits.{paste_none}
-use Rattle.log.proofs.Storing.{Storing, storing_none, run_more, run_cut, run_moves, moves_exit}
-use Rattle.log.proofs.runs.put_run.Goals as goal
+use Rattle.write_log.proofs.Storing.{Storing, storing_none, run_more, run_cut, run_moves, moves_exit}
+use Rattle.write_log.proofs.runs.put_run.Goals as goal
 
 pub loop-i-init : goal.loop-i-init
 loop-i-init g c = λ W rest room.
@@ -13,7 +13,7 @@ loop-i-init g c = λ W rest room.
 pub loop-i-preserved : goal.loop-i-preserved
 loop-i-preserved g c = λ W rest room.
     run_more W c.args.start c.args.run.now (g.M.Module.meaning c.loop-i.memory) (g.M.Module.meaning c.store.new.self) room c.loop-i.i
-    (c.loop-i.invariant W rest room) c.loop-i-test.true c.in-ok-store.field-0 c.in-ok-store.ensures
+    (c.loop-i.invariant W rest room) c.loop-i-test.true c.in_ok-store.field-0 c.in_ok-store.ensures
 
 pub returns-in-err-store : goal.returns-in-err-store
 returns-in-err-store g c =

@@ -6,8 +6,8 @@ use Rattle.device.proofs.Failing.{failed_words}
 use Rattle.device.specs.ModuleCalls.{Kept, Loaded}
 use Rattle.device.specs.Words.{Words, word, width}
 use Rattle.device.specs.declared.Fault.{Fault}
-use Rattle.log.specs.Runs.{Dark, OneOf, Read}
-use Rattle.log.proofs.Storing.{dark}
+use Rattle.write_log.specs.Runs.{Dark, OneOf, Read}
+use Rattle.write_log.proofs.Storing.{dark}
 
 kept_on : (m n m' : Words) → Kept m n → Kept n m' → Kept m m'
 kept_on m n m' a b = record { current = b.current ∙ a.current; sure = b.sure ∙ a.sure }

@@ -2,7 +2,7 @@
 ghost use Rattle.std.specs.Prelude.{◌≡◌, ◌+◌, ◌<◌, length};
 ghost use Rattle.device.specs.Numbers.{Says};
 ghost use Rattle.device.specs.Words.{width};
-ghost use Rattle.log.specs.Runs.{RunPut, AllCleared, RunLoaded, NoRoom};
+ghost use Rattle.write_log.specs.Runs.{RunPut, AllCleared, RunLoaded, NoRoom};
 
 use device::{Fault, Layer, Module, Refusal};
 

@@ -1,13 +1,13 @@
 use Rattle.std.proofs.Common.{◌≡◌, length, replicate, ap, ◌∙◌, arith}
 use Rattle.device.specs.Words.{width}
-use Rattle.log.proofs.Storing.{clear_more, clear_cut, clear_moves, moves_exit}
-use Rattle.log.proofs.runs.clear_all.Goals as goal
+use Rattle.write_log.proofs.Storing.{clear_more, clear_cut, clear_moves, moves_exit}
+use Rattle.write_log.proofs.runs.clear_all.Goals as goal
 
 pub loop-i-preserved : goal.loop-i-preserved
 loop-i-preserved g c = λ W rest.
     let all : c.width-width.result ≡ length W = c.width-width.ensures ∙ ap width rest in
     clear_more W (g.M.Module.meaning c.loop-i.memory) (g.M.Module.meaning c.store.new.self) c.loop-i.i
-    (c.loop-i.invariant W rest) (omega (arith, c.loop-i-test.true)) c.in-ok-store.field-0 c.in-ok-store.ensures
+    (c.loop-i.invariant W rest) (omega (arith, c.loop-i-test.true)) c.in_ok-store.field-0 c.in_ok-store.ensures
 
 pub returns-in-err-store : goal.returns-in-err-store
 returns-in-err-store g c = λ W rest.

@@ -1,7 +1,7 @@
 use Rattle.std.proofs.Common.{◌≡◌, ℕ, ◌+◌, ◌<◌, ◌≤◌}
 use Rattle.device.specs.ModuleCalls.{Kept}
 use Rattle.device.specs.Words.{word}
-use Rattle.log.proofs.runs.load_run.Given as goal
+use Rattle.write_log.proofs.runs.load_run.Given as goal
 
 abbrev pub invariant-loop-i : goal.invariant-loop-i
 invariant-loop-i g l = let m = g.M.Module.meaning in

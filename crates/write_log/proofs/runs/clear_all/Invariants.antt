@@ -1,8 +1,8 @@
 use Rattle.std.proofs.Common.{◌≡◌, ℕ, List, length, replicate}
 use lib.Seq.{paste}
 use Rattle.device.specs.Words.{resting}
-use Rattle.log.proofs.Storing.{Storing}
-use Rattle.log.proofs.runs.clear_all.Given as goal
+use Rattle.write_log.proofs.Storing.{Storing}
+use Rattle.write_log.proofs.runs.clear_all.Given as goal
 
 abbrev pub invariant-loop-i : goal.invariant-loop-i
 invariant-loop-i g l = let m = g.M.Module.meaning in

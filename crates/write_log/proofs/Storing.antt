@@ -11,7 +11,7 @@ use Rattle.device.specs.ModuleCalls.{Stored, Settled, Put}
 use Rattle.device.specs.Numbers.{Says}
 use Rattle.device.specs.Words.{Words, Sound, word, resting}
 use Rattle.device.specs.declared.Fault.{Fault}
-use Rattle.log.specs.Runs.{Dark, OneOf, Cut, Moves}
+use Rattle.write_log.specs.Runs.{Dark, OneOf, Cut, Moves}
 
 -- words that are W's or X's, where those of X are W's or Y's
 further : (W X Y xs : List ℕ) (k : ℕ) → OneOf W X xs k → OneOf W Y X k → OneOf W Y xs k

@@ -2,8 +2,8 @@ use Rattle.std.proofs.Common.{◌≡◌, ◌+◌, ◌<◌, length, set, sym, ◌
 use Rattle.std.proofs.lemmas.List.Edits.{fill_by_more}
 use Rattle.std.proofs.lemmas.List.{get_or-set_other}
 use Rattle.device.specs.Words.{word}
-use Rattle.log.proofs.Loading.{load_more, load_dark, loaded_all, loaded_some, read_exit}
-use Rattle.log.proofs.runs.load_run.Goals as goal
+use Rattle.write_log.proofs.Loading.{load_more, load_dark, loaded_all, loaded_some, read_exit}
+use Rattle.write_log.proofs.runs.load_run.Goals as goal
 
 pub loop-i-preserved : goal.loop-i-preserved
 loop-i-preserved g c =
@@ -12,9 +12,9 @@ loop-i-preserved g c =
     let start = c.args.start in
     let i = c.loop-i.i in
     let out = c.loop-i.out in
-    let v = c.in-ok-out.field-0 in
+    let v = c.in_ok-out.field-0 in
     let lt : i < length out = search rules in
-    let read = load_more m (g.M.Module.meaning c.loop-i.memory) (g.M.Module.meaning c.load.new.self) (start + i) old.0 old.1 v c.in-ok-out.ensures in (
+    let read = load_more m (g.M.Module.meaning c.loop-i.memory) (g.M.Module.meaning c.load.new.self) (start + i) old.0 old.1 v c.in_ok-out.ensures in (
       read.0,
       read.1,
       λ k below. subst (λ x. word (set out i x) k ≡ word m.current (start + k)) (sym read.2) (fill_by_more (λ j. word m.current (start + j)) out i 0 lt old.2 k below),
