@@ -6,8 +6,8 @@ use Rattle.flat.specs.Images.{record_at, replaced, start}
 use Rattle.flat.specs.Records.{labelled}
 use Rattle.flat.proofs.images.label_record.Goals as goal
 
-pub slice-bounds-label-end : goal.slice-bounds-label-end
-slice-bounds-label-end c = omega (arith, record_within c.args.image.now c.args.limit c.requires.shape c.args.r c.requires.low)
+pub slice_bounds-label-end : goal.slice_bounds-label-end
+slice_bounds-label-end c = omega (arith, record_within c.args.image.now c.args.limit c.requires.shape c.args.r c.requires.low)
 
 pub returns : goal.returns
 unfolding replaced

@@ -3,8 +3,8 @@ use Rattle.flat.proofs.Edits.{record_within, record_slice}
 use Rattle.flat.specs.RecordLaws.{length-record_at}
 use Rattle.flat.proofs.images.record_of.Goals as goal
 
-pub slice-bounds-result-end : goal.slice-bounds-result-end
-slice-bounds-result-end c = omega (arith, record_within c.args.image.now c.args.limit c.requires.shape c.args.r c.requires.low)
+pub slice_bounds-result-end : goal.slice_bounds-result-end
+slice_bounds-result-end c = omega (arith, record_within c.args.image.now c.args.limit c.requires.shape c.args.r c.requires.low)
 
 pub returns : goal.returns
 returns c =

@@ -6,8 +6,8 @@ use Rattle.flat.specs.Images.{record_at, replaced, start}
 use Rattle.flat.specs.Records.{stored}
 use Rattle.flat.proofs.images.store_record.Goals as goal
 
-pub slice-bounds-store-end : goal.slice-bounds-store-end
-slice-bounds-store-end c = omega (arith, record_within c.args.image.now c.args.limit c.requires.shape c.args.r c.requires.low)
+pub slice_bounds-store-end : goal.slice_bounds-store-end
+slice_bounds-store-end c = omega (arith, record_within c.args.image.now c.args.limit c.requires.shape c.args.r c.requires.low)
 
 pub returns : goal.returns
 unfolding replaced

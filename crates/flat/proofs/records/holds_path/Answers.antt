@@ -13,4 +13,4 @@ returns c =
     let rec = c.args.rec.now in
     let p = c.args.path.now in
     let D : List ℕ → Type 0 = λ xs. Decides c.eq.result (xs ≡ p) in
-    holds_by p rec c.eq.result c.if-n-eq0.false (subst D (slice_part rec 1 (1 + path_length rec) (path_length rec) (omega arith) (omega (arith, (c.type-inv.rec 0).fits))) (slice_eq-Decides Decides-eqb _ _ _ c.eq.ensures))
+    holds_by p rec c.eq.result c.if-n-eq0.false (subst D (slice_part rec 1 (1 + path_length rec) (path_length rec) (omega arith) (omega (arith, (c.type_inv.rec 0).fits))) (slice_eq-Decides Decides-eqb _ _ _ c.eq.ensures))

@@ -17,15 +17,15 @@ few : (ws : List ℕ) → true ≡ (is_mark (get_or ws 0 0) && (ltb (get_or ws 1
 few ws fits =
     leb-true _ _ (and_parts (leb (get_or ws 3 0) 512) _ (and_parts (leb 1 (get_or ws 3 0)) _ (and_parts _ _ (and_parts (is_mark (get_or ws 0 0)) _ (sym fits)).1).1).1).0
 
-pub returns-then-not-entry-fits : goal.returns-then-not-entry-fits
-returns-then-not-entry-fits c = let ws = c.args.words.now in (no_entry_unfit ws (sym (fits_said ws) ∙ sym c.if-not-entry-fits.ensures), refl)
+pub returns-then-not-entry_fits : goal.returns-then-not-entry_fits
+returns-then-not-entry_fits c = let ws = c.args.words.now in (no_entry_unfit ws (sym (fits_said ws) ∙ sym c.if-not-entry_fits.ensures), refl)
 
-pub returns-then-not-same-words : goal.returns-then-not-same-words
-returns-then-not-same-words c =
+pub returns-then-not-same_words : goal.returns-then-not-same_words
+returns-then-not-same_words c =
     let ws = c.args.words.now in
-    let cut = cut_out ws c.unpack-front-bytes.result 4 64 (get_or ws 3 0) 512 c.if-words-ne68.false (few ws c.if-not-entry-fits.ensures) c.unpack-front-bytes.ensures in
-    let again = c.words-of-again.ensures.words ∙ ap (λ (bs : List ℕ). entry_words (record { mark = get_or ws 0 0; row = get_or ws 1 0; offset = get_or ws 2 0; bytes = bs })) cut.0 in
-    (no_entry_other ws (ap (bytes_eq ws) (sym again) ∙ sym c.if-not-same-words.ensures), refl)
+    let cut = cut_out ws c.unpack_front-bytes.result 4 64 (get_or ws 3 0) 512 c.if-words-ne68.false (few ws c.if-not-entry_fits.ensures) c.unpack_front-bytes.ensures in
+    let again = c.words_of-again.ensures.words ∙ ap (λ (bs : List ℕ). entry_words (record { mark = get_or ws 0 0; row = get_or ws 1 0; offset = get_or ws 2 0; bytes = bs })) cut.0 in
+    (no_entry_other ws (ap (bytes_eq ws) (sym again) ∙ sym c.if-not-same_words.ensures), refl)
 
 pub returns : goal.returns
 returns c =
@@ -33,6 +33,6 @@ returns c =
     let cut = cut_out ws c.unpack_front-bytes.result 4 64 (get_or ws 3 0) 512 c.if-words-ne68.false (few ws c.if-not-entry_fits.ensures) c.unpack_front-bytes.ensures in
     let again = c.words_of-again.ensures.words ∙ ap (λ (bs : List ℕ). entry_words (record { mark = get_or ws 0 0; row = get_or ws 1 0; offset = get_or ws 2 0; bytes = bs })) cut.0 in (
       said ws,
-      an_entry ws (sym (fits_said ws) ∙ sym c.if-not-entry_fits.ensures) (ap (bytes_eq ws) (sym again) ∙ sym c.if-not-same-words.ensures),
+      an_entry ws (sym (fits_said ws) ∙ sym c.if-not-entry_fits.ensures) (ap (bytes_eq ws) (sym again) ∙ sym c.if-not-same_words.ensures),
       record { mark = refl; row = refl; offset = refl; count = sym (length-unpacked (get_or ws 3 0) (drop 4 ws)); few = few ws c.if-not-entry_fits.ensures; front = cut.1 },
     )

@@ -9,5 +9,5 @@ returns c = record {
   words =
       ap (λ ws. c.args.mark ∷ c.args.row ∷ c.args.offset ∷ length c.args.bytes.now ∷ ws)
       (append-nil c.pack.new.words ∙ c.pack.ensures.after ∙ cond-true c.pack.result _ _ (c.pack.ensures.fits ∙ le-leb (length c.args.bytes.now) 512 c.requires));
-  small = λ i. omega (arith, c.ok.bytes i);
+  small = λ i. omega (arith, c.type_inv.bytes i);
 }

@@ -15,14 +15,14 @@ returns-then-pieces-eq0 c =
 pub loop-d-init : goal.loop-d-init
 loop-d-init c = (c.new-words.ensures.items ∙ words_upto_none (group_of c.args.row c.args.pieces.now), refl, λ k h. absurd (omega arith))
 
-pub returns-in-default : goal.returns-in-default
-returns-in-default c =
+pub returns-in_default : goal.returns-in_default
+returns-in_default c =
     let ps = c.args.pieces.now in
     let g = group_of c.args.row ps in
     let d = c.loop-d.d in
     let long = length-map ps plain in
     let h : d < length g.pieces = omega (arith, c.loop-d-test.true) in
-    record { words = no_group_unfit g (unfit_one g (length g.pieces) d h (no_entry_told g d (omega arith) h c.in-default.ensures.words)); reads-back = tt }
+    record { words = no_group_unfit g (unfit_one g (length g.pieces) d h (no_entry_told g d (omega arith) h c.in_default.ensures.words)); reads_back = tt }
 
 pub loop-d-preserved : goal.loop-d-preserved
 loop-d-preserved c =

@@ -12,11 +12,11 @@ room : (bs : List ℕ) (i w : ℕ) → Bytes bs → length bs ≤ 8 → 0 < i �
 room bs i w small few more e =
     omega (arith, e, low_first_below 7 (drop i bs) (λ k. omega (arith, get_or-drop i bs k 0, small (i + k))) (omega (arith, length-drop i bs)))
 
-pub overflow-mul-word : goal.overflow-mul-word
-overflow-mul-word c = (omega (arith, room c.args.bytes.now c.loop-i.i c.loop-i.word (λ k. omega (arith, c.type-inv.bytes k)) c.requires c.loop-i-test.true c.loop-i.invariant))
+pub overflow_mul-word : goal.overflow_mul-word
+overflow_mul-word c = (omega (arith, room c.args.bytes.now c.loop-i.i c.loop-i.word (λ k. omega (arith, c.type_inv.bytes k)) c.requires c.loop-i-test.true c.loop-i.invariant))
 
-pub overflow-add-word : goal.overflow-add-word
-overflow-add-word c = omega (arith, c.from.ensures, c.type-inv.bytes (c.loop-i.i - 1), room c.args.bytes.now c.loop-i.i c.loop-i.word (λ k. omega (arith, c.type-inv.bytes k)) c.requires c.loop-i-test.true c.loop-i.invariant)
+pub overflow_add-word : goal.overflow_add-word
+overflow_add-word c = omega (arith, c.from.ensures, c.type_inv.bytes (c.loop-i.i - 1), room c.args.bytes.now c.loop-i.i c.loop-i.word (λ k. omega (arith, c.type_inv.bytes k)) c.requires c.loop-i-test.true c.loop-i.invariant)
 
 pub loop-i-preserved : goal.loop-i-preserved
 loop-i-preserved c =

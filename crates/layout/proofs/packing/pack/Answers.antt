@@ -13,9 +13,9 @@ loop-j-preserved c =
     let lt : j < length ws = omega (arith, c.loop-j-test.true, c.loop-j.auto.words) in
     λ k h. subst (λ v. get_or (set ws j v) k 0 ≡ f k) (sym c.word_of.ensures) (fill_by_more f ws j 0 lt c.loop-j.invariant k h)
 
-pub returns-then-div-ceil-words : goal.returns-then-div-ceil-words
-returns-then-div-ceil-words c = record {
-  fits = sym (lt-leb (length c.args.bytes.now) (8 * length c.args.words.now) (omega (arith, c.div-ceil.ensures, c.if-div-ceil-words.true)));
+pub returns-then-div_ceil-words : goal.returns-then-div_ceil-words
+returns-then-div_ceil-words c = record {
+  fits = sym (lt-leb (length c.args.bytes.now) (8 * length c.args.words.now) (omega (arith, c.div_ceil.ensures, c.if-div_ceil-words.true)));
   after = refl;
 }
 

@@ -13,9 +13,9 @@ loop-i-preserved c =
     let lt : i < length bs = omega (arith, c.loop-i-test.true, c.loop-i.auto.bytes) in
     λ k h. subst (λ v. get_or (set bs i v) k 0 ≡ f k) (sym c.byte_of.ensures) (fill_by_more f bs i 0 lt c.loop-i.invariant k h)
 
-pub returns-then-div-ceil-words : goal.returns-then-div-ceil-words
-returns-then-div-ceil-words c = record {
-  fits = sym (lt-leb (length c.args.bytes.now) (8 * length c.args.words.now) (omega (arith, c.div-ceil.ensures, c.if-div-ceil-words.true)));
+pub returns-then-div_ceil-words : goal.returns-then-div_ceil-words
+returns-then-div_ceil-words c = record {
+  fits = sym (lt-leb (length c.args.bytes.now) (8 * length c.args.words.now) (omega (arith, c.div_ceil.ensures, c.if-div_ceil-words.true)));
   after = refl;
 }
 

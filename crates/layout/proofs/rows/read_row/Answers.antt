@@ -13,18 +13,18 @@ returns-then-words-ne5 c = elim c.then-words-ne5.branch [
   | then-words-ne5-via-else-words-ne5+then-words-gt32 w ↦ (no_path_long c.args.words.now w.if-words-gt32.true, refl)
 ]
 
-pub returns-in-default : goal.returns-in-default
-returns-in-default c =
+pub returns-in_default : goal.returns-in_default
+returns-in_default c =
     let ws = c.args.words.now in
-    let cut = cut_out ws c.unpack-front-bytes.result 1 4 (get_or ws 0 0) 32 (omega arith) (omega arith) c.unpack-front-bytes.ensures in
-    (no_path_unfit ws (row_declined (said_path ws) (told c.in-default.field-0) (c.in-default.ensures.words ∙ ap row_of cut.0)), refl)
+    let cut = cut_out ws c.unpack_front-bytes.result 1 4 (get_or ws 0 0) 32 (omega arith) (omega arith) c.unpack_front-bytes.ensures in
+    (no_path_unfit ws (row_declined (said_path ws) (told c.in_default.field-0) (c.in_default.ensures.words ∙ ap row_of cut.0)), refl)
 
-pub returns-then-not-same-words : goal.returns-then-not-same-words
-returns-then-not-same-words c =
+pub returns-then-not-same_words : goal.returns-then-not-same_words
+returns-then-not-same_words c =
     let ws = c.args.words.now in
-    let cut = cut_out ws c.unpack-front-bytes.result 1 4 (get_or ws 0 0) 32 (omega arith) (omega arith) c.unpack-front-bytes.ensures in
+    let cut = cut_out ws c.unpack_front-bytes.result 1 4 (get_or ws 0 0) 32 (omega arith) (omega arith) c.unpack_front-bytes.ensures in
     let row = row_given (said_path ws) c.in-Ok.again (c.in-Ok.ensures.words ∙ ap row_of cut.0) in
-    (no_path_other ws (ap (bytes_eq ws) (sym row.1) ∙ sym c.if-not-same-words.ensures), refl)
+    (no_path_other ws (ap (bytes_eq ws) (sym row.1) ∙ sym c.if-not-same_words.ensures), refl)
 
 pub returns : goal.returns
 returns c =

@@ -14,5 +14,5 @@ returns c =
     ap (λ ws. length path ∷ ws) (append-nil c.pack.new.words ∙ c.pack.ensures.after ∙ cond-true c.pack.result _ _ (c.pack.ensures.fits ∙ few)) in
     record {
       words = ap (λ ws. Ok ws) is ∙ sym (cond-true _ _ _ fits);
-      reads_back = ap read_path is ∙ read_path-row_words path (λ i. omega (arith, c.ok.path i)) fits;
+      reads_back = ap read_path is ∙ read_path-row_words path (λ i. omega (arith, c.type_inv.path i)) fits;
     }

@@ -4,5 +4,5 @@ use Rattle.nvlog.proofs.writing.read_names.Goals as goal
 
 pub returns : goal.returns
 returns c = λ wide.
-    let read = c.in-ok-load-run.ensures.loaded wide in
+    let read = c.in_ok-load_run.ensures.loaded wide in
     (read.2, ap resting read.1.current)

@@ -9,13 +9,13 @@ loop-i-preserved g c = λ W rest.
     clear_more W (g.M.Module.meaning c.loop-i.memory) (g.M.Module.meaning c.store.new.self) c.loop-i.i
     (c.loop-i.invariant W rest) (omega (arith, c.loop-i-test.true)) c.in_ok-store.field-0 c.in_ok-store.ensures
 
-pub returns-in-err-store : goal.returns-in-err-store
-returns-in-err-store g c = λ W rest.
-    let e = c.in-err-store.field-0.0 in
+pub returns-in_err-store : goal.returns-in_err-store
+returns-in_err-store g c = λ W rest.
+    let e = c.in_err-store.field-0.0 in
     let m' = g.M.Module.meaning c.store.new.self in
     let all : c.width-width.result ≡ length W = c.width-width.ensures ∙ ap width rest in
-    moves_exit W (replicate (length W) 0) m' e c.from-residual.result c.from-residual.ensures.1
-    (clear_cut W (g.M.Module.meaning c.loop-i.memory) m' c.loop-i.i (c.loop-i.invariant W rest) (omega (arith, c.loop-i-test.true)) (g.M.Module.sound c.store.new.self) e c.in-err-store.ensures)
+    moves_exit W (replicate (length W) 0) m' e c.from_residual.result c.from_residual.ensures.1
+    (clear_cut W (g.M.Module.meaning c.loop-i.memory) m' c.loop-i.i (c.loop-i.invariant W rest) (omega (arith, c.loop-i-test.true)) (g.M.Module.sound c.store.new.self) e c.in_err-store.ensures)
 
 pub returns : goal.returns
 returns g c = λ W rest.

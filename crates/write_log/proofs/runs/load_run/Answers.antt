@@ -21,19 +21,19 @@ loop-i-preserved g c =
       λ k above. get_or-set_other out i k v 0 (omega arith) ∙ old.3 k (omega arith),
     )
 
-pub returns-in-err-out : goal.returns-in-err-out
-returns-in-err-out g c =
+pub returns-in_err-out : goal.returns-in_err-out
+returns-in_err-out g c =
     let m = g.M.Module.meaning c.args.memory.now in
     let m' = g.M.Module.meaning c.load.new.self in
     let old = c.loop-i.invariant in
     let start = c.args.start in
     let i = c.loop-i.i in
     let out = c.args.out.now in
-    let e = c.in-err-out.field-0.0 in
+    let e = c.in_err-out.field-0.0 in
     record {
       loaded = λ room.
-          let cut = load_dark m (g.M.Module.meaning c.loop-i.memory) m' (start + i) old.0 old.1 e (omega (arith, room, c.loop-i-test.true)) c.in-err-out.ensures in
-          read_exit m start out c.loop-i.out m' e c.from-residual.result c.from-residual.ensures.1
+          let cut = load_dark m (g.M.Module.meaning c.loop-i.memory) m' (start + i) old.0 old.1 e (omega (arith, room, c.loop-i-test.true)) c.in_err-out.ensures in
+          read_exit m start out c.loop-i.out m' e c.from_residual.result c.from_residual.ensures.1
           (cut.0, cut.1, loaded_some m.current out c.loop-i.out start i old.2 old.3);
       no_room = λ past. absurd (omega (arith, c.width-width.ensures));
       untouched = λ past. absurd (omega (arith, c.width-width.ensures));

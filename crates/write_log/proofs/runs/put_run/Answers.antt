@@ -15,17 +15,17 @@ loop-i-preserved g c = λ W rest room.
     run_more W c.args.start c.args.run.now (g.M.Module.meaning c.loop-i.memory) (g.M.Module.meaning c.store.new.self) room c.loop-i.i
     (c.loop-i.invariant W rest room) c.loop-i-test.true c.in_ok-store.field-0 c.in_ok-store.ensures
 
-pub returns-in-err-store : goal.returns-in-err-store
-returns-in-err-store g c =
+pub returns-in_err-store : goal.returns-in_err-store
+returns-in_err-store g c =
     let start = c.args.start in
     let run = c.args.run.now in
-    let e = c.in-err-store.field-0.0 in
+    let e = c.in_err-store.field-0.0 in
     let m = g.M.Module.meaning c.loop-i.memory in
     let m' = g.M.Module.meaning c.store.new.self in
     record {
       put = λ W rest room.
-          moves_exit W (paste W start run (length run)) m' e c.from-residual.result c.from-residual.ensures.1
-          (run_cut W start run m m' room c.loop-i.i (c.loop-i.invariant W rest room) c.loop-i-test.true (g.M.Module.sound c.store.new.self) e c.in-err-store.ensures);
+          moves_exit W (paste W start run (length run)) m' e c.from_residual.result c.from_residual.ensures.1
+          (run_cut W start run m m' room c.loop-i.i (c.loop-i.invariant W rest room) c.loop-i-test.true (g.M.Module.sound c.store.new.self) e c.in_err-store.ensures);
       no_room = λ past. absurd (omega (arith, c.width-width.ensures));
     }
 

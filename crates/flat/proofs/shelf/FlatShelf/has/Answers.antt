@@ -3,4 +3,4 @@ use Rattle.flat.proofs.Replacing.{shape_of}
 use Rattle.flat.proofs.shelf.FlatShelf.has.Goals as goal
 
 pub find-requires : goal.find-requires
-find-requires c = record { shape = shape_of _ _ _ c.args.self.now.fit c.as-slice.ensures.value; few = omega arith }
+find-requires c = record { shape = shape_of _ _ _ c.args.self.now.fit c.as_slice.ensures.value; few = omega arith }

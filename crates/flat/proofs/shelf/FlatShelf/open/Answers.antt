@@ -15,82 +15,82 @@ use Rattle.flat.specs.Soundness.{fit_image, slotted}
 use Rattle.flat.proofs.shelf.FlatShelf.open.Goals as goal
 
 pub find-requires : goal.find-requires
-find-requires c = record { shape = shape_of _ _ _ c.args.self.now.fit c.as-slice.ensures.value; few = omega arith }
+find-requires c = record { shape = shape_of _ _ _ c.args.self.now.fit c.as_slice.ensures.value; few = omega arith }
 
 pub bounds-self-r : goal.bounds-self-r
 bounds-self-r c =
     let f = c.args.self.now in
     let p = c.args.path.now in
-    let e : slot f.image.items f.limit p 16 ≡ Some c.in-Some.r = ap (λ xs. slot xs f.limit p 16) (sym c.as-slice.ensures.value) ∙ sym c.find.ensures ∙ c.in-Some.is in
+    let e : slot f.image.items f.limit p 16 ≡ Some c.in-Some.r = ap (λ xs. slot xs f.limit p 16) (sym c.as_slice.ensures.value) ∙ sym c.find.ensures ∙ c.in-Some.is in
     (slotted _ _ (fit_image _ _ f.fit) p c.in-Some.r e).low
 
 pub invariant-of-self : goal.invariant-of-self
 invariant-of-self c =
     let f = c.args.self.now in
     let p = c.args.path.now in
-    let e : slot f.image.items f.limit p 16 ≡ Some c.in-Some.r = ap (λ xs. slot xs f.limit p 16) (sym c.as-slice.ensures.value) ∙ sym c.find.ensures ∙ c.in-Some.is in
-    let good : path_fits p ≡ true = sym c.if-not-path-fits.ensures in
+    let e : slot f.image.items f.limit p 16 ≡ Some c.in-Some.r = ap (λ xs. slot xs f.limit p 16) (sym c.as_slice.ensures.value) ∙ sym c.find.ensures ∙ c.in-Some.is in
+    let good : path_fits p ≡ true = sym c.if-not-path_fits.ensures in
     (f.fit, (live_old _ _ f.opened (fit_image _ _ f.fit) f.live p good c.in-Some.r e, tt))
 
 pub returns-in-Some : goal.returns-in-Some
 returns-in-Some c =
     let f = c.args.self.now in
     let p = c.args.path.now in
-    let e : slot f.image.items f.limit p 16 ≡ Some c.in-Some.r = ap (λ xs. slot xs f.limit p 16) (sym c.as-slice.ensures.value) ∙ sym c.find.ensures ∙ c.in-Some.is in
-    let good : path_fits p ≡ true = sym c.if-not-path-fits.ensures in
+    let e : slot f.image.items f.limit p 16 ≡ Some c.in-Some.r = ap (λ xs. slot xs f.limit p 16) (sym c.as_slice.ensures.value) ∙ sym c.find.ensures ∙ c.in-Some.is in
+    let good : path_fits p ≡ true = sym c.if-not-path_fits.ensures in
     record { 0 = opens_old _ _ f.opened (fit_image _ _ f.fit) f.live p good c.in-Some.r e; image = (sym (cond-true (is_some (slot f.image.items f.limit p 16)) _ _ (ap is_some e)), e) }
 
 pub vacant-requires : goal.vacant-requires
-vacant-requires c = shape_of _ _ _ c.args.self.now.fit c.as-slice-2.ensures.value
+vacant-requires c = shape_of _ _ _ c.args.self.now.fit c.as_slice-2.ensures.value
 
-pub returns-in-default-vacant : goal.returns-in-default-vacant
-returns-in-default-vacant c =
+pub returns-in_default-vacant : goal.returns-in_default-vacant
+returns-in_default-vacant c =
     let f = c.args.self.now in
     let p = c.args.path.now in
-    let good : path_fits p ≡ true = sym c.if-not-path-fits.ensures in
-    let absent : slot f.image.items f.limit p 16 ≡ None = ap (λ xs. slot xs f.limit p 16) (sym c.as-slice.ensures.value) ∙ sym c.find.ensures ∙ c.in-default.is in
-    let none : vacancy f.image.items f.limit ≡ None = ap (λ xs. vacancy xs f.limit) (sym c.as-slice-2.ensures.value) ∙ sym c.vacant.ensures ∙ c.in-default-vacant.is in
+    let good : path_fits p ≡ true = sym c.if-not-path_fits.ensures in
+    let absent : slot f.image.items f.limit p 16 ≡ None = ap (λ xs. slot xs f.limit p 16) (sym c.as_slice.ensures.value) ∙ sym c.find.ensures ∙ c.in_default.is in
+    let none : vacancy f.image.items f.limit ≡ None = ap (λ xs. vacancy xs f.limit) (sym c.as_slice-2.ensures.value) ∙ sym c.vacant.ensures ∙ c.in_default-vacant.is in
     record {
       0 = inr (inr (record {
         reason = (good, ap (option_map (file_in f.image.items f.limit)) absent, shelf_full _ _ f.opened (fit_image _ _ f.fit) f.live none);
-        says = c.declined-in-default-vacant.ensures;
+        says = c.declined-in_default-vacant.ensures;
         kept = kept _ _ f.opened (fit_image _ _ f.fit) f.live;
       }));
       image = refl;
     }
 
-pub label-record-requires : goal.label-record-requires
-label-record-requires c =
+pub label_record-requires : goal.label_record-requires
+label_record-requires c =
     let f = c.args.self.now in
     let p = c.args.path.now in
-    let good : path_fits p ≡ true = sym c.if-not-path-fits.ensures in
-    let absent : slot f.image.items f.limit p 16 ≡ None = ap (λ xs. slot xs f.limit p 16) (sym c.as-slice.ensures.value) ∙ sym c.find.ensures ∙ c.in-default.is in
+    let good : path_fits p ≡ true = sym c.if-not-path_fits.ensures in
+    let absent : slot f.image.items f.limit p 16 ≡ None = ap (λ xs. slot xs f.limit p 16) (sym c.as_slice.ensures.value) ∙ sym c.find.ensures ∙ c.in_default.is in
     let r = c.in-Some-vacant.r in
-    let lowest : vacancy f.image.items f.limit ≡ Some r = ap (λ xs. vacancy xs f.limit) (sym c.as-slice-2.ensures.value) ∙ sym c.vacant.ensures ∙ c.in-Some-vacant.is in
-    record { shape = shape_of _ _ _ f.fit c.as-mut-slice.ensures.value; low = new_low _ _ f.opened (fit_image _ _ f.fit) f.live p good absent r lowest; short = (path_parts p good).1 }
+    let lowest : vacancy f.image.items f.limit ≡ Some r = ap (λ xs. vacancy xs f.limit) (sym c.as_slice-2.ensures.value) ∙ sym c.vacant.ensures ∙ c.in-Some-vacant.is in
+    record { shape = shape_of _ _ _ f.fit c.as_mut_slice.ensures.value; low = new_low _ _ f.opened (fit_image _ _ f.fit) f.live p good absent r lowest; short = (path_parts p good).1 }
 
 pub bounds-self-r-2 : goal.bounds-self-r-2
 bounds-self-r-2 c =
     let f = c.args.self.now in
     let p = c.args.path.now in
-    let good : path_fits p ≡ true = sym c.if-not-path-fits.ensures in
-    let absent : slot f.image.items f.limit p 16 ≡ None = ap (λ xs. slot xs f.limit p 16) (sym c.as-slice.ensures.value) ∙ sym c.find.ensures ∙ c.in-default.is in
+    let good : path_fits p ≡ true = sym c.if-not-path_fits.ensures in
+    let absent : slot f.image.items f.limit p 16 ≡ None = ap (λ xs. slot xs f.limit p 16) (sym c.as_slice.ensures.value) ∙ sym c.find.ensures ∙ c.in_default.is in
     let r = c.in-Some-vacant.r in
-    let lowest : vacancy f.image.items f.limit ≡ Some r = ap (λ xs. vacancy xs f.limit) (sym c.as-slice-2.ensures.value) ∙ sym c.vacant.ensures ∙ c.in-Some-vacant.is in
+    let lowest : vacancy f.image.items f.limit ≡ Some r = ap (λ xs. vacancy xs f.limit) (sym c.as_slice-2.ensures.value) ∙ sym c.vacant.ensures ∙ c.in-Some-vacant.is in
     new_low _ _ f.opened (fit_image _ _ f.fit) f.live p good absent r lowest
 
 pub invariant-of-self-2 : goal.invariant-of-self-2
 invariant-of-self-2 c =
     let f = c.args.self.now in
     let p = c.args.path.now in
-    let good : path_fits p ≡ true = sym c.if-not-path-fits.ensures in
-    let absent : slot f.image.items f.limit p 16 ≡ None = ap (λ xs. slot xs f.limit p 16) (sym c.as-slice.ensures.value) ∙ sym c.find.ensures ∙ c.in-default.is in
+    let good : path_fits p ≡ true = sym c.if-not-path_fits.ensures in
+    let absent : slot f.image.items f.limit p 16 ≡ None = ap (λ xs. slot xs f.limit p 16) (sym c.as_slice.ensures.value) ∙ sym c.find.ensures ∙ c.in_default.is in
     let r = c.in-Some-vacant.r in
-    let lowest : vacancy f.image.items f.limit ≡ Some r = ap (λ xs. vacancy xs f.limit) (sym c.as-slice-2.ensures.value) ∙ sym c.vacant.ensures ∙ c.in-Some-vacant.is in
+    let lowest : vacancy f.image.items f.limit ≡ Some r = ap (λ xs. vacancy xs f.limit) (sym c.as_slice-2.ensures.value) ∙ sym c.vacant.ensures ∙ c.in-Some-vacant.is in
     let new = replaced f.image.items f.limit r (labelled (record_at f.image.items f.limit r) p) in
-    let e : (with_items f.image c.label-record.new.image).items ≡ new =
-    with_items_is f.image c.label-record.new.image (omega (arith, c.label-record.auto.image, c.as-mut-slice.ensures.len))
-    ∙ c.label-record.ensures ∙ ap (λ xs. replaced xs f.limit r (labelled (record_at xs f.limit r) p)) c.as-mut-slice.ensures.value in (
+    let e : (with_items f.image c.label_record.new.image).items ≡ new =
+    with_items_is f.image c.label_record.new.image (omega (arith, c.label_record.auto.image, c.as_mut_slice.ensures.len))
+    ∙ c.label_record.ensures ∙ ap (λ xs. replaced xs f.limit r (labelled (record_at xs f.limit r) p)) c.as_mut_slice.ensures.value in (
       subst (λ xs. is_some (unfit_at xs f.limit) ≡ false) (sym e) (fit_from _ _ (fit_new _ _ f.opened (fit_image _ _ f.fit) f.live p good absent r lowest)),
       (subst (λ xs. Live (set f.opened r true) xs f.limit) (sym e) (live_new _ _ f.opened (fit_image _ _ f.fit) f.live p good absent r lowest), tt),
     )
@@ -99,14 +99,14 @@ pub returns : goal.returns
 returns c =
     let f = c.args.self.now in
     let p = c.args.path.now in
-    let good : path_fits p ≡ true = sym c.if-not-path-fits.ensures in
-    let absent : slot f.image.items f.limit p 16 ≡ None = ap (λ xs. slot xs f.limit p 16) (sym c.as-slice.ensures.value) ∙ sym c.find.ensures ∙ c.in-default.is in
+    let good : path_fits p ≡ true = sym c.if-not-path_fits.ensures in
+    let absent : slot f.image.items f.limit p 16 ≡ None = ap (λ xs. slot xs f.limit p 16) (sym c.as_slice.ensures.value) ∙ sym c.find.ensures ∙ c.in_default.is in
     let r = c.in-Some-vacant.r in
-    let lowest : vacancy f.image.items f.limit ≡ Some r = ap (λ xs. vacancy xs f.limit) (sym c.as-slice-2.ensures.value) ∙ sym c.vacant.ensures ∙ c.in-Some-vacant.is in
+    let lowest : vacancy f.image.items f.limit ≡ Some r = ap (λ xs. vacancy xs f.limit) (sym c.as_slice-2.ensures.value) ∙ sym c.vacant.ensures ∙ c.in-Some-vacant.is in
     let new = replaced f.image.items f.limit r (labelled (record_at f.image.items f.limit r) p) in
-    let e : (with_items f.image c.label-record.new.image).items ≡ new =
-    with_items_is f.image c.label-record.new.image (omega (arith, c.label-record.auto.image, c.as-mut-slice.ensures.len))
-    ∙ c.label-record.ensures ∙ ap (λ xs. replaced xs f.limit r (labelled (record_at xs f.limit r) p)) c.as-mut-slice.ensures.value in
+    let e : (with_items f.image c.label_record.new.image).items ≡ new =
+    with_items_is f.image c.label_record.new.image (omega (arith, c.label_record.auto.image, c.as_mut_slice.ensures.len))
+    ∙ c.label_record.ensures ∙ ap (λ xs. replaced xs f.limit r (labelled (record_at xs f.limit r) p)) c.as_mut_slice.ensures.value in
     record {
       0 = subst (λ xs. Opens (flat f.image.items f.limit f.opened) p r (flat xs f.limit (set f.opened r true))) (sym e) (opens_new _ _ f.opened (fit_image _ _ f.fit) f.live p good absent r lowest);
       image = (

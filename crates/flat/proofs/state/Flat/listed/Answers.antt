@@ -10,14 +10,14 @@ use Rattle.flat.specs.Records.{path_length, path_of, size_of, taken}
 use Rattle.flat.specs.Soundness.{fit_image, slot_is}
 use Rattle.flat.proofs.state.Flat.listed.Goals as goal
 
-pub record-of-rec-requires : goal.record-of-rec-requires
-record-of-rec-requires c = record { shape = shape_of _ _ _ c.args.self.now.fit c.as-slice.ensures.value; low = c.if-r-ge-RECORDS.false }
+pub record_of-rec-requires : goal.record_of-rec-requires
+record_of-rec-requires c = record { shape = shape_of _ _ _ c.args.self.now.fit c.as_slice.ensures.value; low = c.if-r-ge-RECORDS.false }
 
-pub slice-bounds-result-end : goal.slice-bounds-result-end
-slice-bounds-result-end c = omega (arith, c.record-of-rec.ensures.long, (fit_image _ _ c.args.self.now.fit).shape.least, (c.type-inv.rec 0).fits)
+pub slice_bounds-result-end : goal.slice_bounds-result-end
+slice_bounds-result-end c = omega (arith, c.record_of-rec.ensures.long, (fit_image _ _ c.args.self.now.fit).shape.least, (c.type_inv.rec 0).fits)
 
-pub size-of-requires : goal.size-of-requires
-size-of-requires c = omega (arith, c.record-of-rec.ensures.long, (fit_image _ _ c.args.self.now.fit).shape.least)
+pub size_of-requires : goal.size_of-requires
+size_of-requires c = omega (arith, c.record_of-rec.ensures.long, (fit_image _ _ c.args.self.now.fit).shape.least)
 
 pub returns : goal.returns
 returns c =
@@ -25,14 +25,14 @@ returns c =
     let r = c.args.r in
     let low = c.if-r-ge-RECORDS.false in
     let rec = record_at f.image.items f.limit r in
-    let is : c.record-of-rec.result.now ≡ rec = c.record-of-rec.ensures.is ∙ ap (λ xs. record_at xs f.limit r) c.as-slice.ensures.value in
-    let here = c.record-of-rec.result.now in
+    let is : c.record_of-rec.result.now ≡ rec = c.record_of-rec.ensures.is ∙ ap (λ xs. record_at xs f.limit r) c.as_slice.ensures.value in
+    let here = c.record_of-rec.result.now in
     let n = path_length here in
     let ne = c.if-n-eq0.false in
     let used : taken rec ≡ true = sym (ap taken is) ∙ lt-ltb 0 n (omega arith) in
     let few = (well_made_parts rec used ((fit_image _ _ f.fit).fits r low)).few in
-    let path = slice_part here 1 (1 + n) n (omega arith) (omega (arith, c.record-of-rec.ensures.long, (fit_image _ _ f.fit).shape.least, few, ap path_length is)) ∙ ap path_of is in
-    let size = c.size-of.ensures ∙ ap size_of is in
+    let path = slice_part here 1 (1 + n) n (omega arith) (omega (arith, c.record_of-rec.ensures.long, (fit_image _ _ f.fit).shape.least, few, ap path_length is)) ∙ ap path_of is in
+    let size = c.size_of.ensures ∙ ap size_of is in
     record {
       low = low;
       used = used;

@@ -7,8 +7,8 @@ use Rattle.nvlog.proofs.Laying.{fit_few, group_given}
 use Rattle.nvlog.proofs.Ending.{not_dark}
 use Rattle.nvlog.proofs.word_log.WordLog.lay_out.Goals as goal
 
-pub put-group-requires : goal.put-group-requires
-put-group-requires c =
+pub put_group-requires : goal.put_group-requires
+put_group-requires c =
     let circle = c.args.self.now.circle in
     record {
       few = (fit_few c.args.row c.args.pieces.now c.requires.fit).1;
@@ -16,11 +16,11 @@ put-group-requires c =
       on = circle.on;
     }
 
-pub returns-in-err-put-group : goal.returns-in-err-put-group
-returns-in-err-put-group c = λ fit.
+pub returns-in_err-put_group : goal.returns-in_err-put_group
+returns-in_err-put_group c = λ fit.
     let ps = c.args.pieces.now in
-    let given = group_given c.args.row ps (vec_items c.in-Some.group) (sym (ap (option_map vec_items) c.in-Some.is) ∙ c.in-ok-group.ensures.words) in
-    not_dark _ c.in-err-put-group.field-0.0 (c.in-err-put-group.ensures c.args.self.now.memory.words.now refl fit (group_of c.args.row ps) (c.as-slice.ensures.value ∙ given))
+    let given = group_given c.args.row ps (vec_items c.in-Some.group) (sym (ap (option_map vec_items) c.in-Some.is) ∙ c.in_ok-group.ensures.words) in
+    not_dark _ c.in_err-put_group.field-0.0 (c.in_err-put_group.ensures c.args.self.now.memory.words.now refl fit (group_of c.args.row ps) (c.as_slice.ensures.value ∙ given))
 
 pub invariant-of-self-3 : goal.invariant-of-self-3
 invariant-of-self-3 c =
@@ -37,8 +37,8 @@ returns c = λ fit.
     let W = c.args.self.now.memory.words.now in
     let k = length ps in
     let long : length g.pieces ≡ k = length-map ps plain in
-    let given = group_given c.args.row ps (vec_items c.in-Some.group) (sym (ap (option_map vec_items) c.in-Some.is) ∙ c.in-ok-group.ensures.words) in
-    let stored = c.in-ok-put-group.ensures W refl fit g (c.as-slice.ensures.value ∙ given) in (
+    let given = group_given c.args.row ps (vec_items c.in-Some.group) (sym (ap (option_map vec_items) c.in-Some.is) ∙ c.in_ok-group.ensures.words) in
+    let stored = c.in_ok-put_group.ensures W refl fit g (c.as_slice.ensures.value ∙ given) in (
       refl,
       sym long,
       ap (λ m. record {

@@ -8,43 +8,43 @@ use Rattle.nvlog.proofs.Laying.{asked_nothing, asked_too_much, group_is_fit, wri
 use Rattle.nvlog.proofs.Naming.{names_wide, row_seen}
 use Rattle.nvlog.proofs.word_log.WordLog.write.Goals as goal
 
-pub returns-then-not-is-named : goal.returns-then-not-is-named
-returns-then-not-is-named c =
+pub returns-then-not-is_named : goal.returns-then-not-is_named
+returns-then-not-is_named c =
     let log = c.args.self.now in
     let s = state_of log in
-    let read = λ (fit : Fit s). c.in-ok-names.ensures (names_wide s fit) in
+    let read = λ (fit : Fit s). c.in_ok-names.ensures (names_wide s fit) in
     let same = λ (fit : Fit s). ap (λ m. state_in log.circle m.current) (read fit).1 in
     record {
-      written = λ fit. (cond-false _ _ _ (row_seen s c.in-ok-names.names c.args.row false fit (read fit).0 c.if-not-is-named.ensures), same fit);
+      written = λ fit. (cond-false _ _ _ (row_seen s c.in_ok-names.names c.args.row false fit (read fit).0 c.if-not-is_named.ensures), same fit);
       fit = λ fit. subst Fit (sym (same fit)) fit;
     }
 
-pub returns-in-err-pieces : goal.returns-in-err-pieces
-returns-in-err-pieces c =
+pub returns-in_err-pieces : goal.returns-in_err-pieces
+returns-in_err-pieces c =
     let log = c.args.self.now in
     let s = state_of log in
-    let read = λ (fit : Fit s). c.in-ok-names.ensures (names_wide s fit) in
+    let read = λ (fit : Fit s). c.in_ok-names.ensures (names_wide s fit) in
     let same = λ (fit : Fit s). ap (λ m. state_in log.circle m.current) (read fit).1 in
     record {
       written = λ fit.
-          let named : taken_row s.words c.args.row ≡ true = row_seen s c.in-ok-names.names c.args.row true fit (read fit).0 c.if-not-is-named.ensures in
-          written_declined s _ c.args.row c.args.offset c.args.bytes.now c.in-err-pieces.field-0.0 c.from-residual-in-err-pieces.result named (same fit)
-          c.in-err-pieces.ensures c.from-residual-in-err-pieces.ensures.1;
+          let named : taken_row s.words c.args.row ≡ true = row_seen s c.in_ok-names.names c.args.row true fit (read fit).0 c.if-not-is_named.ensures in
+          written_declined s _ c.args.row c.args.offset c.args.bytes.now c.in_err-pieces.field-0.0 c.from_residual-in_err-pieces.result named (same fit)
+          c.in_err-pieces.ensures c.from_residual-in_err-pieces.ensures.1;
       fit = λ fit. subst Fit (sym (same fit)) fit;
     }
 
-pub returns-then-is-empty : goal.returns-then-is-empty
-returns-then-is-empty c =
+pub returns-then-is_empty : goal.returns-then-is_empty
+returns-then-is_empty c =
     let log = c.args.self.now in
     let s = state_of log in
-    let read = λ (fit : Fit s). c.in-ok-names.ensures (names_wide s fit) in
+    let read = λ (fit : Fit s). c.in_ok-names.ensures (names_wide s fit) in
     let same = λ (fit : Fit s). ap (λ m. state_in log.circle m.current) (read fit).1 in
-    let v = c.in-ok-pieces.pieces in
+    let v = c.in_ok-pieces.pieces in
     record {
       written = λ fit.
-          let named : taken_row s.words c.args.row ≡ true = row_seen s c.in-ok-names.names c.args.row true fit (read fit).0 c.if-not-is-named.ensures in
-          let none : length (vec_items v) ≡ 0 = sym v.ok.0 ∙ eqb-true (vec_len v) 0 (sym c.if-is-empty.ensures) in
-          let told = asked_nothing s c.args.row c.args.offset c.args.bytes.now (vec_items v) named c.in-ok-pieces.ensures none in
+          let named : taken_row s.words c.args.row ≡ true = row_seen s c.in_ok-names.names c.args.row true fit (read fit).0 c.if-not-is_named.ensures in
+          let none : length (vec_items v) ≡ 0 = sym v.ok.0 ∙ eqb-true (vec_len v) 0 (sym c.if-is_empty.ensures) in
+          let told = asked_nothing s c.args.row c.args.offset c.args.bytes.now (vec_items v) named c.in_ok-pieces.ensures none in
           (told.0, told.1, same fit);
       fit = λ fit. subst Fit (sym (same fit)) fit;
     }
@@ -53,46 +53,46 @@ pub returns-then-len-free : goal.returns-then-len-free
 returns-then-len-free c =
     let log = c.args.self.now in
     let s = state_of log in
-    let read = λ (fit : Fit s). c.in-ok-names.ensures (names_wide s fit) in
+    let read = λ (fit : Fit s). c.in_ok-names.ensures (names_wide s fit) in
     let same = λ (fit : Fit s). ap (λ m. state_in log.circle m.current) (read fit).1 in
-    let v = c.in-ok-pieces.pieces in
+    let v = c.in_ok-pieces.pieces in
     record {
       written = λ fit.
-          let named : taken_row s.words c.args.row ≡ true = row_seen s c.in-ok-names.names c.args.row true fit (read fit).0 c.if-not-is-named.ensures in (
-            asked_too_much s c.args.row c.args.offset c.args.bytes.now (vec_items v) named c.in-ok-pieces.ensures c.free-free.result
+          let named : taken_row s.words c.args.row ≡ true = row_seen s c.in_ok-names.names c.args.row true fit (read fit).0 c.if-not-is_named.ensures in (
+            asked_too_much s c.args.row c.args.offset c.args.bytes.now (vec_items v) named c.in_ok-pieces.ensures c.free-free.result
                 (omega (arith, c.free-free.ensures)) (omega (arith, v.ok.0, c.if-len-free.true, c.len.ensures)),
             same fit,
           );
       fit = λ fit. subst Fit (sym (same fit)) fit;
     }
 
-pub lay-out-requires : goal.lay-out-requires
-lay-out-requires c =
-    let seen = reworded (state_of c.args.self.now) c.in-ok-names.names in
-    let v = c.in-ok-pieces.pieces in
-    let named : taken_row seen.words c.args.row ≡ true = sym c.if-not-is-named.ensures in
-    let more : vec_len v ≡ 0 → ⊥ = eqb-false (vec_len v) 0 (sym c.if-is-empty.ensures) in
+pub lay_out-requires : goal.lay_out-requires
+lay_out-requires c =
+    let seen = reworded (state_of c.args.self.now) c.in_ok-names.names in
+    let v = c.in_ok-pieces.pieces in
+    let named : taken_row seen.words c.args.row ≡ true = sym c.if-not-is_named.ensures in
+    let more : vec_len v ≡ 0 → ⊥ = eqb-false (vec_len v) 0 (sym c.if-is_empty.ensures) in
     let some : 0 < length (vec_items v) = omega (arith, v.ok.0, more) in
     record {
       fit =
-          subst (λ l. group_fits (group_of c.args.row l) ≡ true) (sym c.as-slice.ensures.value)
-          (group_is_fit seen c.args.row c.args.offset c.args.bytes.now (vec_items v) named c.in-ok-pieces.ensures some);
-      room = omega (arith, c.as-slice.ensures.len, c.if-len-free.false, c.len.ensures, c.free-free.ensures);
+          subst (λ l. group_fits (group_of c.args.row l) ≡ true) (sym c.as_slice.ensures.value)
+          (group_is_fit seen c.args.row c.args.offset c.args.bytes.now (vec_items v) named c.in_ok-pieces.ensures some);
+      room = omega (arith, c.as_slice.ensures.len, c.if-len-free.false, c.len.ensures, c.free-free.ensures);
     }
 
 pub returns : goal.returns
 returns c =
     let log = c.args.self.now in
     let s = state_of log in
-    let read = λ (fit : Fit s). c.in-ok-names.ensures (names_wide s fit) in
+    let read = λ (fit : Fit s). c.in_ok-names.ensures (names_wide s fit) in
     let same = λ (fit : Fit s). ap (λ m. state_in log.circle m.current) (read fit).1 in
-    let v = c.in-ok-pieces.pieces in
-    let lent = c.as-slice.result.now in
-    let laid = λ (fit : Fit s). c.in-ok-laid.ensures (subst Fit (sym (same fit)) fit) in
+    let v = c.in_ok-pieces.pieces in
+    let lent = c.as_slice.result.now in
+    let laid = λ (fit : Fit s). c.in_ok-laid.ensures (subst Fit (sym (same fit)) fit) in
     record {
       written = λ fit.
-          let named : taken_row s.words c.args.row ≡ true = row_seen s c.in-ok-names.names c.args.row true fit (read fit).0 c.if-not-is-named.ensures in
-          written_laid s c.args.row c.args.offset c.args.bytes.now (vec_items v) named c.in-ok-pieces.ensures
-          _ _ lent c.in-ok-laid.laid (same fit) c.as-slice.ensures.value (omega (arith, v.ok.0, c.if-len-free.false, c.len.ensures, c.free-free.ensures)) (laid fit);
+          let named : taken_row s.words c.args.row ≡ true = row_seen s c.in_ok-names.names c.args.row true fit (read fit).0 c.if-not-is_named.ensures in
+          written_laid s c.args.row c.args.offset c.args.bytes.now (vec_items v) named c.in_ok-pieces.ensures
+          _ _ lent c.in_ok-laid.laid (same fit) c.as_slice.ensures.value (omega (arith, v.ok.0, c.if-len-free.false, c.len.ensures, c.free-free.ensures)) (laid fit);
       fit = λ fit. fit_after _ _ (group_of c.args.row lent) log.circle.least (subst Fit (sym (same fit)) fit) (laid fit).2;
     }
