@@ -1,5 +1,7 @@
 // Examples for the words of the format.
 
+#![tactic(auto)]
+
 #[cfg(test)]
 mod tests {
     use device::{Fault, Layer, Refusal};

@@ -1,5 +1,7 @@
 // The two modules, tried: what is found after a cut, when it comes, and what is declined; and a run of words that is cut.
 
+#![tactic(auto)]
+
 #[cfg(test)]
 mod tests {
     use device::{Fault, Layer, Module, Refusal};

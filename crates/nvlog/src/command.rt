@@ -27,21 +27,21 @@ pub enum Step<'a> {
 
 // The command that a line holds: fields separated by one space, and a text that is the rest of the line.
 pub fn parse<'a>(line: &'a [u8]) -> Option<Command<'a>> {
-    if line == b"back" {
+    if line == b"back".as_slice() {
         return Some(Command::Use(Step::Back));
     }
     let (verb, rest) = field(line)?;
-    if verb == b"log" {
+    if verb == b"log".as_slice() {
         let entries = entries_of(rest)?;
         return Some(Command::Log { entries });
     }
-    if verb == b"name" {
+    if verb == b"name".as_slice() {
         return Some(Command::Use(Step::Name { path: rest }));
     }
-    if verb == b"write" {
+    if verb == b"write".as_slice() {
         return Some(Command::Use(write_step(rest)?));
     }
-    if verb == b"words" {
+    if verb == b"words".as_slice() {
         return Some(Command::Use(words_step(rest)?));
     }
     None

@@ -1,4 +1,6 @@
 // nvlog: lays writes out in the words of a log, and reads them back.
+#![tactic(auto)]
+
 mod command;
 mod lines;
 mod reader;

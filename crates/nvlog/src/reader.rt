@@ -70,7 +70,7 @@ fn entries_in(words: &[u64]) -> Result<usize, Fault>
     if first.len() == HEADER_WORDS {
         let n = first[6] as usize / ENTRY_WORDS;
         if let Some(right) = header(n) {
-            if &right == first {
+            if right.as_slice() == first {
                 return Ok(n);
             }
         }

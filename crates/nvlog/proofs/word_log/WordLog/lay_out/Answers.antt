@@ -22,13 +22,6 @@ returns-in_err-put_group c = λ fit.
     let given = group_given c.args.row ps (vec_items c.in-Some.group) (sym (ap (option_map vec_items) c.in-Some.is) ∙ c.in_ok-group.ensures.words) in
     not_dark _ c.in_err-put_group.field-0.0 (c.in_err-put_group.ensures c.args.self.now.memory.words.now refl fit (group_of c.args.row ps) (c.as_slice.ensures.value ∙ given))
 
-pub invariant-of-self-3 : goal.invariant-of-self-3
-invariant-of-self-3 c =
-    let circle = c.args.self.now.circle in
-    let some = (fit_few c.args.row c.args.pieces.now c.requires.fit).0 in
-    let positive : 0 < circle.entries = omega (arith, circle.least) in
-    ((circle.least, (circle.most, (mod-lt _ positive, (omega (arith, c.requires.room), (omega (arith, circle.few), tt))))), tt)
-
 pub returns : goal.returns
 returns c = λ fit.
     let circle = c.args.self.now.circle in

@@ -13,7 +13,7 @@ returns-in-Some c =
     record {
       named = λ fit.
           named_own s _ c.args.path.now c.in_ok-row.row c.in_ok-names.names c.in_ok-row.ensures.words (c.in_ok-names.ensures (names_wide s fit)).0 (names_wide s fit)
-          c.in-Some.own_val c.in-Some.ensures (same fit);
+          c.in-Some.own c.in-Some.ensures (same fit);
       fit = λ fit. subst Fit (sym (same fit)) fit;
     }
 
