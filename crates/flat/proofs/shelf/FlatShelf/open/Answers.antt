@@ -24,13 +24,13 @@ bounds-self-r c =
     let e : slot f.image.items f.limit p 16 ≡ Some c.in-Some.r = ap (λ xs. slot xs f.limit p 16) (sym c.as_slice.ensures.value) ∙ sym c.find.ensures ∙ c.in-Some.is in
     (slotted _ _ (fit_image _ _ f.fit) p c.in-Some.r e).low
 
-pub invariant-of-self : goal.invariant-of-self
-invariant-of-self c =
+pub invariant_of-self : goal.invariant_of-self
+invariant_of-self c =
     let f = c.args.self.now in
     let p = c.args.path.now in
     let e : slot f.image.items f.limit p 16 ≡ Some c.in-Some.r = ap (λ xs. slot xs f.limit p 16) (sym c.as_slice.ensures.value) ∙ sym c.find.ensures ∙ c.in-Some.is in
     let good : path_fits p ≡ true = sym c.if-not-path_fits.ensures in
-    (f.fit, (live_old _ _ f.opened (fit_image _ _ f.fit) f.live p good c.in-Some.r e, tt))
+    record { fit = f.fit; live = live_old _ _ f.opened (fit_image _ _ f.fit) f.live p good c.in-Some.r e }
 
 pub returns-in-Some : goal.returns-in-Some
 returns-in-Some c =
@@ -38,7 +38,7 @@ returns-in-Some c =
     let p = c.args.path.now in
     let e : slot f.image.items f.limit p 16 ≡ Some c.in-Some.r = ap (λ xs. slot xs f.limit p 16) (sym c.as_slice.ensures.value) ∙ sym c.find.ensures ∙ c.in-Some.is in
     let good : path_fits p ≡ true = sym c.if-not-path_fits.ensures in
-    record { 0 = opens_old _ _ f.opened (fit_image _ _ f.fit) f.live p good c.in-Some.r e; image = (sym (cond-true (is_some (slot f.image.items f.limit p 16)) _ _ (ap is_some e)), e) }
+    record { opened = opens_old _ _ f.opened (fit_image _ _ f.fit) f.live p good c.in-Some.r e; image = (sym (cond-true (is_some (slot f.image.items f.limit p 16)) _ _ (ap is_some e)), e) }
 
 pub vacant-requires : goal.vacant-requires
 vacant-requires c = shape_of _ _ _ c.args.self.now.fit c.as_slice-2.ensures.value
@@ -51,7 +51,7 @@ returns-in_default-vacant c =
     let absent : slot f.image.items f.limit p 16 ≡ None = ap (λ xs. slot xs f.limit p 16) (sym c.as_slice.ensures.value) ∙ sym c.find.ensures ∙ c.in_default.is in
     let none : vacancy f.image.items f.limit ≡ None = ap (λ xs. vacancy xs f.limit) (sym c.as_slice-2.ensures.value) ∙ sym c.vacant.ensures ∙ c.in_default-vacant.is in
     record {
-      0 = inr (inr (record {
+      opened = inr (inr (record {
         reason = (good, ap (option_map (file_in f.image.items f.limit)) absent, shelf_full _ _ f.opened (fit_image _ _ f.fit) f.live none);
         says = c.declined-in_default-vacant.ensures;
         kept = kept _ _ f.opened (fit_image _ _ f.fit) f.live;
@@ -79,8 +79,8 @@ bounds-self-r-2 c =
     let lowest : vacancy f.image.items f.limit ≡ Some r = ap (λ xs. vacancy xs f.limit) (sym c.as_slice-2.ensures.value) ∙ sym c.vacant.ensures ∙ c.in-Some-vacant.is in
     new_low _ _ f.opened (fit_image _ _ f.fit) f.live p good absent r lowest
 
-pub invariant-of-self-2 : goal.invariant-of-self-2
-invariant-of-self-2 c =
+pub invariant_of-self-2 : goal.invariant_of-self-2
+invariant_of-self-2 c =
     let f = c.args.self.now in
     let p = c.args.path.now in
     let good : path_fits p ≡ true = sym c.if-not-path_fits.ensures in
@@ -90,10 +90,10 @@ invariant-of-self-2 c =
     let new = replaced f.image.items f.limit r (labelled (record_at f.image.items f.limit r) p) in
     let e : (with_items f.image c.label_record.new.image).items ≡ new =
     with_items_is f.image c.label_record.new.image (omega (arith, c.label_record.auto.image, c.as_mut_slice.ensures.len))
-    ∙ c.label_record.ensures ∙ ap (λ xs. replaced xs f.limit r (labelled (record_at xs f.limit r) p)) c.as_mut_slice.ensures.value in (
-      subst (λ xs. is_some (unfit_at xs f.limit) ≡ false) (sym e) (fit_from _ _ (fit_new _ _ f.opened (fit_image _ _ f.fit) f.live p good absent r lowest)),
-      (subst (λ xs. Live (set f.opened r true) xs f.limit) (sym e) (live_new _ _ f.opened (fit_image _ _ f.fit) f.live p good absent r lowest), tt),
-    )
+    ∙ c.label_record.ensures ∙ ap (λ xs. replaced xs f.limit r (labelled (record_at xs f.limit r) p)) c.as_mut_slice.ensures.value in record {
+      fit = subst (λ xs. is_some (unfit_at xs f.limit) ≡ false) (sym e) (fit_from _ _ (fit_new _ _ f.opened (fit_image _ _ f.fit) f.live p good absent r lowest));
+      live = subst (λ xs. Live (set f.opened r true) xs f.limit) (sym e) (live_new _ _ f.opened (fit_image _ _ f.fit) f.live p good absent r lowest);
+    }
 
 pub returns : goal.returns
 returns c =
@@ -108,7 +108,7 @@ returns c =
     with_items_is f.image c.label_record.new.image (omega (arith, c.label_record.auto.image, c.as_mut_slice.ensures.len))
     ∙ c.label_record.ensures ∙ ap (λ xs. replaced xs f.limit r (labelled (record_at xs f.limit r) p)) c.as_mut_slice.ensures.value in
     record {
-      0 = subst (λ xs. Opens (flat f.image.items f.limit f.opened) p r (flat xs f.limit (set f.opened r true))) (sym e) (opens_new _ _ f.opened (fit_image _ _ f.fit) f.live p good absent r lowest);
+      opened = subst (λ xs. Opens (flat f.image.items f.limit f.opened) p r (flat xs f.limit (set f.opened r true))) (sym e) (opens_new _ _ f.opened (fit_image _ _ f.fit) f.live p good absent r lowest);
       image = (
         e ∙ sym (cond-false (is_some (slot f.image.items f.limit p 16)) _ _ (ap is_some absent) ∙ ap (labelled_at f.image.items f.limit p) lowest),
         ap (λ xs. slot xs f.limit p 16) e ∙ slot_new _ _ f.opened (fit_image _ _ f.fit) f.live p good absent r lowest,

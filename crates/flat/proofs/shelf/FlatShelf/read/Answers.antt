@@ -22,4 +22,4 @@ returns c =
     let n = length c.args.buffer.now in
     let e = c.fetch_record.ensures ∙ ap (λ xs. part (record_at xs f.limit c.args.h) (64 + c.args.at) n) c.as_slice.ensures.value in
     let within = leb-true (c.args.at + n) f.limit (sym c.if-not-has_room.ensures) in
-    record { 0 = fetched _ _ f.opened (fit_image _ _ f.fit) f.live c.args.h (sym c.if-not-is_open.ensures) c.args.at c.args.buffer.now c.fetch_record.new.buffer within e; image = refl }
+    record { has_read = fetched _ _ f.opened (fit_image _ _ f.fit) f.live c.args.h (sym c.if-not-is_open.ensures) c.args.at c.args.buffer.now c.fetch_record.new.buffer within e; image = refl }

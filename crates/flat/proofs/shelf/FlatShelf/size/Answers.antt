@@ -18,4 +18,4 @@ pub returns : goal.returns
 returns c =
     let f = c.args.self.now in
     let e = c.size_of.ensures ∙ ap size_of c.record_of.ensures.is ∙ ap (λ xs. size_of (record_at xs f.limit c.args.h)) c.as_slice.ensures.value in
-    record { 0 = measured _ _ f.opened (fit_image _ _ f.fit) f.live c.args.h (sym c.if-not-is_open.ensures) c.size_of.result e; image = refl }
+    record { sized = measured _ _ f.opened (fit_image _ _ f.fit) f.live c.args.h (sym c.if-not-is_open.ensures) c.size_of.result e; image = refl }

@@ -20,8 +20,8 @@ store_record-requires c =
       within = leb-true (c.args.at + length c.args.bytes.now) f.limit (sym c.if-not-has_room.ensures);
     }
 
-pub invariant-of-self : goal.invariant-of-self
-invariant-of-self c =
+pub invariant_of-self : goal.invariant_of-self
+invariant_of-self c =
     let f = c.args.self.now in
     let h = c.args.h in
     let at = c.args.at in
@@ -34,10 +34,10 @@ invariant-of-self c =
     let new = replaced f.image.items f.limit h (stored (record_at f.image.items f.limit h) at ds) in
     let e : (with_items f.image c.store_record.new.image).items ≡ new =
     with_items_is f.image c.store_record.new.image (omega (arith, c.store_record.auto.image, c.as_mut_slice.ensures.len))
-    ∙ c.store_record.ensures ∙ ap (λ xs. replaced xs f.limit h (stored (record_at xs f.limit h) at ds)) c.as_mut_slice.ensures.value in (
-      subst (λ xs. is_some (unfit_at xs f.limit) ≡ false) (sym e) (fit_from _ _ (fit_put _ _ f.opened fit f.live h is_open at ds within some)),
-      (subst (λ xs. Live f.opened xs f.limit) (sym e) (live_put _ _ f.opened fit f.live h is_open at ds within some), tt),
-    )
+    ∙ c.store_record.ensures ∙ ap (λ xs. replaced xs f.limit h (stored (record_at xs f.limit h) at ds)) c.as_mut_slice.ensures.value in record {
+      fit = subst (λ xs. is_some (unfit_at xs f.limit) ≡ false) (sym e) (fit_from _ _ (fit_put _ _ f.opened fit f.live h is_open at ds within some));
+      live = subst (λ xs. Live f.opened xs f.limit) (sym e) (live_put _ _ f.opened fit f.live h is_open at ds within some);
+    }
 
 pub returns-then-not-is_empty : goal.returns-then-not-is_empty
 returns-then-not-is_empty c =
@@ -55,7 +55,7 @@ returns-then-not-is_empty c =
     with_items_is f.image c.store_record.new.image (omega (arith, c.store_record.auto.image, c.as_mut_slice.ensures.len))
     ∙ c.store_record.ensures ∙ ap (λ xs. replaced xs f.limit h (stored (record_at xs f.limit h) at ds)) c.as_mut_slice.ensures.value in
     record {
-      0 = subst (λ xs. Put (flat f.image.items f.limit f.opened) h at ds (flat xs f.limit f.opened)) (sym e) (put_some _ _ f.opened fit f.live h is_open at ds within some);
+      has_written = subst (λ xs. Put (flat f.image.items f.limit f.opened) h at ds (flat xs f.limit f.opened)) (sym e) (put_some _ _ f.opened fit f.live h is_open at ds within some);
       image = e ∙ sym (cond-false (eqb (length ds) 0) _ _ (ne_eqb (length ds) 0 ne));
     }
 
@@ -70,6 +70,6 @@ returns-else-not-is_empty c =
     let within = leb-true (at + length ds) f.limit (sym c.if-not-has_room.ensures) in
     let none = eqb-true (length ds) 0 (sym c.is_empty.ensures ∙ c.if-not-is_empty.false) in
     record {
-      0 = put_nothing _ _ f.opened fit f.live h is_open at ds within none;
+      has_written = put_nothing _ _ f.opened fit f.live h is_open at ds within none;
       image = sym (cond-true (eqb (length ds) 0) _ _ (eq-eqb (length ds) 0 none));
     }
