@@ -1,5 +1,5 @@
 -- What a write makes of a content, as laws that hold of every content, position and data.
-use Rattle.std.specs.Prelude.{◌≡◌, ℕ, ◌+◌, ◌<◌, ◌≤◌, max, ◌⊎◌, List, [], length}
+use Rattle.std.specs.Prelude.{◌≡◌, ℕ, ◌+◌, ◌<◌, ◌≤◌, max, ◌⊎◌, List, length}
 use Rattle.device.specs.Contents.{byte, part, written}
 
 pub record WriteLaws (xs : List ℕ) (at : ℕ) (ds : List ℕ) : Type 0 where

@@ -1,13 +1,13 @@
 -- What the calls of a flat shelf come to, over the image, the limit and the flags alone.
-use Rattle.std.proofs.Common.{◌≡◌, ℕ, ◌+◌, ◌-◌, ◌<◌, ◌≤◌, Bool, true, false, cond, not, eqb, ◌⊎◌, List, [], length, get_or, set, is_some, Some, None, Option, sym, refl, ap, ◌∙◌, subst, inl, inr, ⊎_elim, arith}
+use Rattle.std.proofs.Common.{◌≡◌, ℕ, ◌+◌, ◌<◌, ◌≤◌, Bool, true, false, cond, not, eqb, List, [], length, get_or, set, is_some, Some, None, Option, sym, refl, ap, ◌∙◌, subst, inl, inr, ⊎_elim, arith}
 use Rattle.std.proofs.lemmas.List.{get_or_past, get_or-set_same, get_or-set_other, length-set}
 use Rattle.std.proofs.lemmas.Bool.{cases_Bool, cases_eq, cases_lt, cond-true, cond-false, eq-eqb, ne_eqb, false≢true, not-false, not-true, both_ways}
 use Rattle.std.specs.Option.{option_map}
 use Rattle.device.proofs.Writing.{length_part, part_same, written_nothing, written_size}
 use Rattle.device.specs.Contents.{byte, part, written}
-use Rattle.device.specs.Files.{File, Files, firm}
+use Rattle.device.specs.Files.{File, firm}
 use Rattle.device.specs.Paths.{Path, path_fits}
-use Rattle.device.specs.ShelfCalls.{Same, FirmChoice, LooseChoice, Both, Steady, Kept, Reached, Measured, HandleChoice, OpenedFile, Opens, Fetched, Put}
+use Rattle.device.specs.ShelfCalls.{Same, FirmChoice, LooseChoice, Both, Kept, Reached, Measured, OpenedFile, Opens, Fetched, Put}
 use Rattle.flat.proofs.Edits.{length-labelled, length-stored}
 use Rattle.flat.proofs.Labelling.{label_path, label_taken, label_content, label_fits}
 use Rattle.flat.proofs.Replacing.{file_in, here, elsewhere, fit_replaced, file_same, file_here, not_holds}
@@ -18,7 +18,7 @@ use Rattle.flat.specs.Records.{path_of, size_of, content_of, taken, holds, label
 use Rattle.flat.specs.SearchLaws.{found_by_first, nowhere_by_first, how_many_same, how_many_more, how_many_few, how_many_all}
 use Rattle.flat.specs.Searches.{how_many}
 use Rattle.flat.specs.Shelves.{flat, Live}
-use Rattle.flat.specs.Soundness.{FitImage, Slotted, one_record, slot_is, slotted, size_within}
+use Rattle.flat.specs.Soundness.{FitImage, one_record, slot_is, slotted}
 
 pub same_file : (o : Option File) → Both Same o o
 same_file None = tt

@@ -1,16 +1,16 @@
 -- What the checks of a record tell.
-use Rattle.std.proofs.Common.{◌≡◌, ℕ, ◌+◌, ◌-◌, ◌*◌, ◌%◌, ◌<◌, ◌≤◌, Bool, true, false, cond, ◌&&◌, eqb, ltb, leb, ◌⊎◌, List, [], ◌∷◌, length, take, drop, Some, Decides, sym, refl, ap, ◌∙◌, ⊎_elim, arith}
+use Rattle.std.proofs.Common.{◌≡◌, ℕ, ◌+◌, ◌-◌, ◌*◌, ◌<◌, ◌≤◌, Bool, true, false, ◌&&◌, leb, ◌⊎◌, List, length, take, drop, Some, Decides, sym, ap, ◌∙◌, ⊎_elim, arith}
 use Rattle.std.proofs.lemmas.Slice.Eq.{bytes_eq-Decides}
-use Rattle.std.proofs.lemmas.Bool.{lt-ltb, le-ltb, lt-leb, le-leb, ltb-true, leb-true, eq-eqb, ne_eqb, and_left, and_right, and_from, and_parts, cond-true, cond-false}
+use Rattle.std.proofs.lemmas.Bool.{lt-ltb, le-ltb, lt-leb, le-leb, eq-eqb, ne_eqb, and_left, and_right, and_from, cond-true, cond-false}
 use Rattle.std.proofs.lemmas.Bool.Decides.{same_from_decides}
 use Rattle.std.specs.Str.{bytes_eq}
-use Rattle.device.proofs.Writing.{part_within, length_part, byte-part, part_is}
+use Rattle.device.proofs.Writing.{part_within, part_is}
 use Rattle.device.specs.Contents.{byte, part}
 use Rattle.device.specs.Files.{limit_fits}
 use Rattle.device.specs.Paths.{Path, no_zero, path_fits}
 use Rattle.flat.specs.Images.{bad, shape_fits, unfit_at}
 use Rattle.flat.specs.RecordLaws.{fits_made}
-use Rattle.flat.specs.Records.{all_zero, blank, path_length, path_of, size_of, taken, holds, well_made, record_fits}
+use Rattle.flat.specs.Records.{all_zero, blank, path_length, path_of, size_of, taken, holds, record_fits}
 use Rattle.flat.specs.Searches.{first}
 
 -- a slice of a list is a part of it

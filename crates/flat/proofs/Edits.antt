@@ -1,16 +1,15 @@
 -- Records that are replaced, byte by byte.
-use Rattle.std.proofs.Common.{◌≡◌, ℕ, ◌+◌, ◌-◌, ◌*◌, ◌<◌, ◌≤◌, max, ◌⊎◌, List, length, take, drop, set, sym, refl, ap, ◌∙◌, inl, inr, ⊎_elim, add-mul, arith}
+use Rattle.std.proofs.Common.{◌≡◌, ℕ, ◌+◌, ◌-◌, ◌<◌, ◌≤◌, max, ◌⊎◌, List, length, take, drop, set, sym, ap, ◌∙◌, inl, inr, ⊎_elim, add-mul, arith}
 use lib.Seq.{paste, length-paste}
 use Rattle.std.proofs.lemmas.Nat.{mul-le}
-use Rattle.std.proofs.lemmas.List.{length-set, get_or-set_same, get_or-set_other, ext_get_or}
-use Rattle.std.proofs.lemmas.Bool.{cases_order, cases_lt}
+use Rattle.std.proofs.lemmas.List.{length-set, get_or-set_same, get_or-set_other}
+use Rattle.std.proofs.lemmas.Bool.{cases_order}
 use Rattle.device.proofs.Pasted.{paste_before, paste_after, paste_inside, paste_outside}
-use Rattle.device.proofs.Writing.{length_part, byte-part, part_is, part_same}
-use Rattle.device.specs.Contents.{byte, part}
+use Rattle.device.proofs.Writing.{byte-part, part_is, part_same}
+use Rattle.device.specs.Contents.{byte}
 use Rattle.device.specs.Paths.{Path}
 use Rattle.flat.proofs.Checking.{slice_part}
 use Rattle.flat.specs.Images.{Shape, start, record_at, replaced}
-use Rattle.flat.specs.RecordLaws.{length-record_at}
 use Rattle.flat.specs.Records.{number_bytes, size_of, labelled, stored}
 
 -- a record ends where the next begins, or before

@@ -1,5 +1,5 @@
 -- An image of zeros is a shelf with no file.
-use Rattle.std.proofs.Common.{◌≡◌, ℕ, ◌+◌, ◌*◌, ◌<◌, ◌≤◌, Bool, true, false, cond, List, length, get_or, replicate, Some, None, sym, refl, ap, ◌∙◌, ⊎_elim, arith}
+use Rattle.std.proofs.Common.{◌≡◌, ℕ, ◌+◌, ◌*◌, ◌<◌, true, false, List, length, get_or, replicate, None, refl, ap, ◌∙◌, ⊎_elim, arith}
 use Rattle.std.proofs.lemmas.List.{get_or_past, get_or-replicate, length-replicate}
 use Rattle.std.proofs.lemmas.Bool.{cases_lt, cond-false, le-ltb, both_ways}
 use Rattle.std.specs.Option.{option_map}
@@ -12,7 +12,7 @@ use Rattle.flat.proofs.Edits.{byte_record}
 use Rattle.flat.proofs.Replacing.{file_in}
 use Rattle.flat.specs.Images.{record_at, slot, start}
 use Rattle.flat.specs.RecordLaws.{shape_from, length-record_at}
-use Rattle.flat.specs.Records.{path_length, path_of, taken, holds, record_fits}
+use Rattle.flat.specs.Records.{path_length, taken, holds}
 use Rattle.flat.specs.SearchLaws.{first_none, how_many_none}
 use Rattle.flat.specs.Shelves.{flat, none_open, no_files, Live}
 use Rattle.flat.specs.Soundness.{FitImage}

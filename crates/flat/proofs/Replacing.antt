@@ -1,5 +1,5 @@
 -- An image in which one record is replaced: it stays fit, and the files of other records stay.
-use Rattle.std.proofs.Common.{◌≡◌, ℕ, ◌+◌, ◌<◌, ◌≤◌, Bool, true, false, not, ◌||◌, ltb, ◌⊎◌, List, length, is_some, Some, None, Option, sym, refl, ap, ◌∙◌, subst, ⊎_elim, arith}
+use Rattle.std.proofs.Common.{◌≡◌, ℕ, ◌+◌, ◌<◌, true, false, not, ltb, List, length, is_some, Some, None, Option, sym, refl, ap, ◌∙◌, subst, ⊎_elim, arith}
 use Rattle.std.proofs.lemmas.Bool.{cases_Bool, cases_eq, both_ways, or_from, not_from_true}
 use Rattle.std.specs.Option.{option_map}
 use Rattle.device.proofs.Writing.{length_part}
@@ -8,7 +8,7 @@ use Rattle.device.specs.Paths.{Path}
 use Rattle.flat.proofs.Checking.{unfit_first}
 use Rattle.flat.proofs.Edits.{length-replaced, replaced_there, replaced_elsewhere}
 use Rattle.flat.specs.Images.{Shape, record_at, slot, bad, unfit_at, replaced}
-use Rattle.flat.specs.RecordLaws.{holds_parts, holds_own}
+use Rattle.flat.specs.RecordLaws.{holds_parts}
 use Rattle.flat.specs.Records.{path_length, path_of, content_of, taken, holds, record_fits}
 use Rattle.flat.specs.SearchLaws.{first_none, first_same, found_by_first}
 use Rattle.flat.specs.Soundness.{FitImage, fit_image, slot_is}

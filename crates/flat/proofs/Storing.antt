@@ -1,15 +1,15 @@
 -- A record after a write to its file.
-use Rattle.std.proofs.Common.{◌≡◌, ℕ, ◌+◌, ◌-◌, ◌*◌, ◌/◌, ◌%◌, ◌<◌, ◌≤◌, max, true, false, cond, ◌&&◌, ltb, leb, ◌⊎◌, List, [], length, sym, refl, ap, ◌∙◌, inl, inr, ⊎_elim, arith}
+use Rattle.std.proofs.Common.{◌≡◌, ℕ, ◌+◌, ◌-◌, ◌*◌, ◌/◌, ◌%◌, ◌<◌, ◌≤◌, max, true, ltb, leb, ◌⊎◌, List, length, sym, ap, ◌∙◌, inl, inr, ⊎_elim, arith}
 use native.Mathlib.Nat.{div-div-eq-div-mul}
 use Rattle.std.proofs.lemmas.List.{get_or_past}
-use Rattle.std.proofs.lemmas.Bool.{and_from, le-leb, lt-ltb, cases_lt}
+use Rattle.std.proofs.lemmas.Bool.{and_from, le-leb, cases_lt}
 use Rattle.device.proofs.Writing.{length_part, byte-part, part_is, part_same, written_there, written_others, written_size}
 use Rattle.device.specs.Contents.{byte, part, written}
 use Rattle.device.specs.Paths.{path_fits}
 use Rattle.flat.proofs.Blanks.{blank_from, blank_at}
 use Rattle.flat.proofs.Edits.{length-stored, stored_size, stored_data, stored_others}
 use Rattle.flat.specs.RecordLaws.{WellMade, well_made_parts, fits_made}
-use Rattle.flat.specs.Records.{blank, path_length, path_of, number, number_bytes, size_of, content_of, taken, record_fits, stored}
+use Rattle.flat.specs.Records.{blank, path_length, path_of, size_of, content_of, taken, record_fits, stored}
 
 -- four bytes give the number back
 number_back : (n : ℕ) → n < 4294967296 → n % 256 + n / 256 % 256 * 256 + n / 65536 % 256 * 65536 + n / 16777216 % 256 * 16777216 ≡ n

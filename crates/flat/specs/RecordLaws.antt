@@ -1,11 +1,10 @@
 -- What the tests of a record, a path and a limit tell.
-use Rattle.std.specs.Prelude.{◌≡◌, ℕ, ◌+◌, ◌*◌, ◌%◌, ◌<◌, ◌≤◌, Bool, true, false, ◌&&◌, List, [], length, ◌==◌, nat_le, refl}
-use Rattle.std.proofs.Common.{sym, ap, ◌∙◌, arith}
+use Rattle.std.specs.Prelude.{◌≡◌, ℕ, ◌+◌, ◌*◌, ◌%◌, ◌≤◌, true, List, length, ◌==◌, nat_le}
+use Rattle.std.proofs.Common.{sym, ◌∙◌, arith}
 use Rattle.std.proofs.lemmas.Slice.Eq.{bytes_eq-Decides}
-use Rattle.std.proofs.lemmas.Bool.{leb-true, ltb-true, and_from, and_parts, cond-true}
+use Rattle.std.proofs.lemmas.Bool.{leb-true, and_from, and_parts, cond-true}
 use Rattle.std.specs.Str.{bytes_eq}
 use Rattle.device.proofs.Writing.{length_part}
-use Rattle.device.specs.Contents.{part}
 use Rattle.device.specs.Files.{limit_fits}
 use Rattle.device.specs.Paths.{Path, no_zero, path_fits}
 use Rattle.flat.specs.Images.{Shape, start, record_at}

@@ -1,18 +1,18 @@
 -- That a fit image is a sound shelf, as a term that the shelf gives.
-use Rattle.std.specs.Prelude.{◌≡◌, ℕ, ◌+◌, ◌*◌, ◌<◌, ◌≤◌, Bool, true, false, cond, not, ◌⊎◌, List, [], length, is_some, Some, None, Option, ◌==◌, ◌≢◌, slice_index_or, refl}
+use Rattle.std.specs.Prelude.{◌≡◌, ℕ, ◌+◌, ◌*◌, ◌<◌, ◌≤◌, Bool, true, false, cond, not, List, [], length, is_some, Some, None, Option, ◌==◌, ◌≢◌, slice_index_or, refl}
 use Rattle.std.proofs.Common.{sym, ap, subst, ◌∙◌, ⊎_elim, arith}
 use Rattle.std.proofs.lemmas.List.{get_or_past}
-use Rattle.std.proofs.lemmas.Bool.{eqb-true, and_parts, cases_Bool, cases_lt, cases_order, false≢true, not-false, or_parts, cond-true}
+use Rattle.std.proofs.lemmas.Bool.{eqb-true, and_parts, cases_lt, cases_order, false≢true, not-false, or_parts}
 use Rattle.std.specs.Option.{option_map}
 use Rattle.device.proofs.Writing.{length_part}
-use Rattle.device.specs.Files.{File, Files, FoundChoice, SoundFile, Counted, HandleOf, Sound, limit_fits, firm}
+use Rattle.device.specs.Files.{SoundFile, Counted, Sound, limit_fits, firm}
 use Rattle.device.specs.Paths.{Path, path_fits}
-use Rattle.flat.specs.Images.{Shape, start, record_at, slot, bad, shape_fits, unfit_at}
-use Rattle.flat.specs.Listing.{Roll, listed, roll}
+use Rattle.flat.specs.Images.{Shape, record_at, slot, bad, shape_fits, unfit_at}
+use Rattle.flat.specs.Listing.{listed, roll}
 use Rattle.flat.specs.RecordLaws.{shape_from, length-record_at, holds_parts, holds_own, well_made_parts}
 use Rattle.flat.specs.Records.{path_of, size_of, content_of, taken, holds, record_fits}
-use Rattle.flat.specs.SearchLaws.{Nowhere, Found, first_only, found_by_first, nowhere_by_first, search_below, first_is, how_many_few}
-use Rattle.flat.specs.Searches.{first, how_many}
+use Rattle.flat.specs.SearchLaws.{first_only, found_by_first, nowhere_by_first, how_many_few}
+use Rattle.flat.specs.Searches.{first}
 use Rattle.flat.specs.Shelves.{flat, Live}
 
 -- what is known of a fit image

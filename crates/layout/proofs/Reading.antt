@@ -1,11 +1,11 @@
 -- When words are a path's or an entry's, and that what was written is read again.
-use Rattle.std.proofs.Common.{◌≡◌, ℕ, suc, ◌+◌, ◌-◌, ◌<◌, ◌≤◌, Bool, true, false, cond, leb, List, ◌++◌, length, get_or, take, drop, replicate, Some, None, Ok, Err, sym, refl, ap, ◌∙◌, subst, arith}
+use Rattle.std.proofs.Common.{◌≡◌, ℕ, suc, ◌+◌, ◌-◌, ◌<◌, ◌≤◌, Bool, true, false, leb, List, ◌++◌, length, get_or, take, drop, replicate, Some, None, Ok, Err, sym, refl, ap, ◌∙◌, subst, arith}
 use Rattle.std.proofs.lemmas.List.{take_all, take_at, length-drop}
 use Rattle.std.proofs.lemmas.Bool.{and_from, and_left, and_right, and_parts, cond-true, cond-false, lt-leb, leb-true}
 use Rattle.std.proofs.lemmas.Slice.Eq.{bytes_eq-Decides}
 use Rattle.std.specs.Str.{bytes_eq}
 use Rattle.device.specs.Numbers.{Told, refusal}
-use Rattle.layout.specs.Packing.{packed, unpacked, Bytes}
+use Rattle.layout.specs.Packing.{unpacked, Bytes}
 use Rattle.layout.specs.Rows.{no_zero, path_fits, row_words, row_of, said_path, read_path}
 use Rattle.layout.specs.Entries.{Entry, entry_fits, is_mark, entry_words, said, read_entry}
 use Rattle.layout.proofs.Tellings.{cond_ok, cond_err}

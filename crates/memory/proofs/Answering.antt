@@ -1,7 +1,7 @@
 -- What a staged module answers, by its plan.
-use Rattle.std.proofs.Common.{◌≡◌, ℕ, true, false, not, eqb, ◌⊎◌, List, sym, refl, ap, ◌∙◌, inl, inr, ⊎_elim}
+use Rattle.std.proofs.Common.{◌≡◌, ℕ, true, false, not, eqb, List, sym, refl, ap, ◌∙◌, inl, inr, ⊎_elim}
 use Rattle.std.proofs.lemmas.Bool.{cases_Bool, and_parts}
-use Rattle.device.specs.Numbers.{number_of, refusal, Says}
+use Rattle.device.specs.Numbers.{number_of, Says}
 use Rattle.device.specs.ModuleCalls.{Failed, Declined, Done}
 use Rattle.device.specs.declared.Fault.{Fault}
 use Rattle.memory.specs.Plans.{Plan, used_up, lasts, drawn}

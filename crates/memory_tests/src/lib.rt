@@ -5,10 +5,10 @@
 #[cfg(test)]
 mod tests {
     use device::{Fault, Layer, Module, Refusal};
-    use write_log::{load_run, put_run};
     use memory::{Battery, Staged};
     use std::process::Abort;
     use std::test::Fail;
+    use write_log::{load_run, put_run};
 
     const NO_CUT: [u64; 4] = [u64::MAX; 4];
 

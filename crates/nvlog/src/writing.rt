@@ -15,9 +15,9 @@ use layout::{
     ENTRY_WORDS, FIRST_ENTRY, HEADER_WORDS, MOST_FILE, Piece, ROW_WORDS, ROWS, TAIL, group_words,
     header, log_width, row_words, split,
 };
-use write_log::{clear_all, load_run, put_run};
 use memory::Battery;
 use std::alloc::Global;
+use write_log::{clear_all, load_run, put_run};
 
 impl Circle {
     // Makes an empty log of n entries in all the words of a module.

@@ -1,4 +1,4 @@
-use Rattle.std.proofs.Common.{◌≡◌, sym, ap, ◌∙◌, arith, below_more}
+use Rattle.std.proofs.Common.{sym, ap, ◌∙◌, arith, below_more}
 use Rattle.flat.specs.Images.{record_at}
 use Rattle.flat.specs.Records.{holds}
 use Rattle.flat.specs.SearchLaws.{first_is, first_none}

@@ -1,4 +1,4 @@
-use Rattle.std.proofs.Common.{◌≡◌, ◌+◌, not, ◌||◌, is_some, sym, ap, ◌∙◌, arith}
+use Rattle.std.proofs.Common.{◌+◌, not, ◌||◌, is_some, sym, ap, ◌∙◌, arith}
 use Rattle.flat.proofs.Checking.{slice_part}
 use Rattle.flat.proofs.Edits.{byte_record}
 use Rattle.flat.specs.Images.{record_at, slot, start}

@@ -1,4 +1,4 @@
-use Rattle.std.proofs.Common.{◌≡◌, sym, ◌∙◌, inl, inr, arith, below_more}
+use Rattle.std.proofs.Common.{sym, ◌∙◌, inl, inr, arith, below_more}
 use Rattle.flat.proofs.Checking.{unfit_shape, unfit_first}
 use Rattle.flat.specs.RecordLaws.{shape_from}
 use Rattle.flat.specs.Images.{bad}

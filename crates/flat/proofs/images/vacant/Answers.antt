@@ -1,4 +1,4 @@
-use Rattle.std.proofs.Common.{◌≡◌, not, ltb, get_or, sym, ap, ◌∙◌, arith, below_more}
+use Rattle.std.proofs.Common.{◌≡◌, not, get_or, sym, ap, ◌∙◌, arith, below_more}
 use Rattle.std.proofs.lemmas.Bool.{lt-ltb, le-ltb}
 use Rattle.flat.specs.Images.{record_at}
 use Rattle.flat.specs.Records.{path_length, taken}

@@ -1,7 +1,6 @@
-use Rattle.std.proofs.Common.{◌≡◌, ℕ, ◌+◌, ◌-◌, ◌<◌, ◌≤◌, true, false, ◌&&◌, leb, List, length, take, drop, sym, refl, ap, ◌∙◌, arith}
+use Rattle.std.proofs.Common.{◌≡◌, ℕ, ◌+◌, ◌-◌, ◌<◌, ◌≤◌, true, ◌&&◌, leb, List, length, take, drop, sym, refl, ap, ◌∙◌, arith}
 use Rattle.std.proofs.lemmas.Bool.{lt-ltb, lt-leb, and_left}
 use Rattle.device.proofs.Writing.{length_part}
-use Rattle.device.specs.Contents.{part}
 use Rattle.device.specs.Paths.{path_fits}
 use Rattle.flat.proofs.Checking.{slice_part, blank_slice, blank_all, long_path, fits_free, unfit_path, unfit_fill, unfit_rest, fits_rest}
 use Rattle.flat.specs.Records.{all_zero, blank, path_length, path_of, size_of, taken, record_fits}

@@ -1,5 +1,5 @@
 use Rattle.std.proofs.Common.{Some, sym, ap, ◌∙◌}
-use Rattle.layout.specs.Entries.{read_entry, entry_fits}
+use Rattle.layout.specs.Entries.{read_entry}
 use Rattle.layout.proofs.Reading.{read_entry-entry_words}
 use Rattle.layout.proofs.Grouping.{entry_given, no_words_many, no_words_past, no_words_unfit, words_given}
 use Rattle.layout.proofs.entries.entry_words.Goals as goal

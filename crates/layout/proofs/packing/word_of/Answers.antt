@@ -1,4 +1,4 @@
-use Rattle.std.proofs.Common.{◌*◌, take, drop, sym, ap, ◌∙◌, arith}
+use Rattle.std.proofs.Common.{◌*◌, take, sym, ap, ◌∙◌, arith}
 use Rattle.std.proofs.lemmas.List.{drop_all}
 use Rattle.layout.specs.Packing.{low_first}
 use Rattle.layout.proofs.Packed.{part_from}

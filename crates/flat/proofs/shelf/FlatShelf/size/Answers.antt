@@ -1,4 +1,4 @@
-use Rattle.std.proofs.Common.{◌≡◌, sym, refl, ap, ◌∙◌, arith}
+use Rattle.std.proofs.Common.{sym, refl, ap, ◌∙◌, arith}
 use Rattle.flat.proofs.Calls.{open_low, measured}
 use Rattle.flat.proofs.Replacing.{shape_of}
 use Rattle.flat.specs.Images.{record_at}
