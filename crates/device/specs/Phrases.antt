@@ -3,6 +3,8 @@ use Rattle.std.specs.Prelude.{ℕ, List, ◌++◌, codes, decimal}
 use Rattle.device.specs.declared.Refusal.{Refusal}
 use Rattle.device.specs.declared.Refusal.TheVariants.{MachineDown, PowerFailedInCall, UnknownMode, BadPath, DescriptorsTaken, NoSuchFile, ShelfFull, BadDescriptor, WrongMode, WriteTooLong, PastLimit, LogFull, ScratchTooShort, BadFormat, BadHeader, BadTail, BadRow, BadEntry, UnfitImage, OutOfRange, UnsettledWord, PowerFailed}
 use Rattle.device.specs.declared.Fault.{Fault}
+use Rattle.device.specs.declared.Failure.{Failure}
+use Rattle.device.specs.declared.Failure.TheVariants.{Declined, NoMemory}
 use Rattle.device.specs.Numbers.{number_of, layer_of}
 
 abbrev pub phrase_of : Refusal → List ℕ
@@ -32,3 +34,7 @@ phrase_of PowerFailed = codes "power failed"
 abbrev pub shown_fault : Fault → List ℕ
 shown_fault e =
     codes "refusal " ++ (decimal (number_of e.refusal) ++ (codes ", layer " ++ (decimal (layer_of e.layer) ++ (codes ", place " ++ (decimal e.place ++ (codes ": " ++ phrase_of e.refusal))))))
+
+abbrev pub shown_failure : Failure → List ℕ
+shown_failure (Declined e) = shown_fault e
+shown_failure NoMemory = codes "no memory"

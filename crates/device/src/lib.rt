@@ -3,17 +3,18 @@
 
 ghost use Rattle.std.specs.Prelude.{◌≡◌, Some};
 ghost use Rattle.device.specs.declared.Failure.TheVariants.{Declined, NoMemory};
-ghost use Rattle.device.specs.Numbers.{number_of, layer_of};
-ghost use Rattle.device.specs.Phrases.{phrase_of, shown_fault};
+ghost use Rattle.device.specs.Numbers.{number_of, layer_of, told, refusal as told_as};
+ghost use Rattle.device.specs.Phrases.{phrase_of, shown_fault, shown_failure};
 
 mod modules;
-mod paths;
+mod ranges;
 mod shelves;
 
 pub use modules::Module;
-pub use paths::path_fits;
+pub use ranges::{check_run, path_fits, run_fits};
 pub use shelves::{Shelf, writes_keep_these_laws};
 use std::alloc::{AllocError, AllocFailed};
+use std::error::Error;
 use std::fmt;
 
 // Why a call is declined.
@@ -43,18 +44,21 @@ pub enum Refusal {
     PowerFailed = 22,
 }
 
-impl Refusal {
-    pub fn number(self) -> u8
-        ensures { result ≡ number_of self }
-    {
-        self as u8
-    }
+// The number that a refusal is told by.
+impl From<Refusal> for u8 {
+    ghost from_gives = { λ why n. n ≡ number_of why };
 
-    // What the refusal means, in words.
-    pub fn phrase(self) -> &'static str
-        ensures { result.now ≡ phrase_of self }
-    {
-        match self {
+    fn from(why: Refusal) -> u8 {
+        why as u8
+    }
+}
+
+// What the refusal means, in words.
+impl fmt::Display for Refusal {
+    ghost output = { λ why. Some (phrase_of why) };
+
+    fn fmt<W: fmt::Write>(&self, f: &mut fmt::Formatter<W>) -> fmt::Result {
+        f.write_str(match self {
             Refusal::MachineDown => "the machine is down",
             Refusal::PowerFailedInCall => "power failed in this call",
             Refusal::UnknownMode => "unknown mode",
@@ -77,7 +81,7 @@ impl Refusal {
             Refusal::OutOfRange => "out of range",
             Refusal::UnsettledWord => "the word is not settled",
             Refusal::PowerFailed => "power failed",
-        }
+        })
     }
 }
 
@@ -91,10 +95,24 @@ pub enum Layer {
 }
 
 impl Layer {
-    pub fn layer_number(self) -> u8
-        ensures { result ≡ layer_of self }
+    // What this layer says when it declines a call.
+    pub fn declines(self, refusal: Refusal, place: u64) -> Fault
+        ensures { told result ≡ told_as (number_of refusal) (layer_of self) place }
     {
-        self as u8
+        Fault {
+            refusal,
+            layer: self,
+            place,
+        }
+    }
+}
+
+// The number that a layer is told by.
+impl From<Layer> for u8 {
+    ghost from_gives = { λ layer n. n ≡ layer_of layer };
+
+    fn from(layer: Layer) -> u8 {
+        layer as u8
     }
 }
 
@@ -110,13 +128,13 @@ impl fmt::Display for Fault {
     ghost output = { λ e. Some (shown_fault e) };
 
     fn fmt<W: fmt::Write>(&self, f: &mut fmt::Formatter<W>) -> fmt::Result {
-        let number = self.refusal.number();
-        let layer = self.layer.layer_number();
-        let place = self.place;
-        let phrase = self.refusal.phrase();
         write!(
             f,
-            "refusal {number}, layer {layer}, place {place}: {phrase}"
+            "refusal {}, layer {}, place {}: {}",
+            u8::from(self.refusal),
+            u8::from(self.layer),
+            self.place,
+            self.refusal
         )
     }
 }
@@ -127,6 +145,21 @@ pub enum Failure {
     Declined(Fault),
     NoMemory,
 }
+
+impl fmt::Display for Failure {
+    ghost output = { λ e. Some (shown_failure e) };
+
+    fn fmt<W: fmt::Write>(&self, f: &mut fmt::Formatter<W>) -> fmt::Result {
+        match self {
+            Failure::Declined(fault) => write!(f, "{fault}"),
+            Failure::NoMemory => f.write_str("no memory"),
+        }
+    }
+}
+
+impl Error for Fault {}
+
+impl Error for Failure {}
 
 impl From<Fault> for Failure {
     ghost from_gives = { λ e r. r ≡ Declined e };
@@ -144,6 +177,7 @@ impl From<AllocError> for Failure {
     }
 }
 
+// The same for the other type of such an error: `?` meets both.
 impl<T: Drop> From<AllocFailed<T>> for Failure {
     ghost from_gives = { λ _ r. r ≡ NoMemory };
 

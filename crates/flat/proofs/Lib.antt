@@ -1,4 +1,4 @@
-pub mod Checking
+pub mod Slices
 pub mod Edits
 pub mod Blanks
 pub mod Labelling
@@ -6,3 +6,4 @@ pub mod Storing
 pub mod Replacing
 pub mod Calls
 pub mod Emptying
+pub mod Finding

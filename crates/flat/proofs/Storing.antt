@@ -1,32 +1,25 @@
 -- A record after a write to its file.
-use Rattle.std.proofs.Common.{◌≡◌, ℕ, ◌+◌, ◌-◌, ◌*◌, ◌/◌, ◌%◌, ◌<◌, ◌≤◌, max, true, ltb, leb, ◌⊎◌, List, length, sym, ap, ◌∙◌, inl, inr, ⊎_elim, arith}
+use Rattle.std.proofs.Common.{◌≡◌, ℕ, ◌+◌, ◌-◌, ◌*◌, ◌/◌, ◌%◌, ◌<◌, ◌≤◌, max, true, leb, ◌⊎◌, List, length, sym, ap, ◌∙◌, inl, inr, ⊎_elim, arith}
 use native.Mathlib.Nat.{div-div-eq-div-mul}
 use Rattle.std.proofs.lemmas.List.{get_or_past}
 use Rattle.std.proofs.lemmas.Bool.{and_from, le-leb, cases_lt}
-use Rattle.device.proofs.Writing.{length_part, byte-part, part_is, part_same, written_there, written_others, written_size}
+use Rattle.std.proofs.lemmas.Grind.{common_steps}
+use Rattle.device.proofs.Writing.{length_part, byte-part, part_is, written_there, written_others, written_size}
 use Rattle.device.specs.Contents.{byte, part, written}
 use Rattle.device.specs.Paths.{path_fits}
 use Rattle.flat.proofs.Blanks.{blank_from, blank_at}
 use Rattle.flat.proofs.Edits.{length-stored, stored_size, stored_data, stored_others}
+use Rattle.flat.proofs.Replacing.{Filed}
 use Rattle.flat.specs.RecordLaws.{WellMade, well_made_parts, fits_made}
 use Rattle.flat.specs.Records.{blank, path_length, path_of, size_of, content_of, taken, record_fits, stored}
 
 -- four bytes give the number back
 number_back : (n : ℕ) → n < 4294967296 → n % 256 + n / 256 % 256 * 256 + n / 65536 % 256 * 65536 + n / 16777216 % 256 * 16777216 ≡ n
-number_back n h =
-    let a : n ≡ 256 * (n / 256) + n % 256 = omega arith in
-    let b : n / 256 ≡ 256 * (n / 256 / 256) + n / 256 % 256 = omega arith in
-    let c : n / 65536 ≡ 256 * (n / 65536 / 256) + n / 65536 % 256 = omega arith in
-    let d : n / 16777216 % 256 ≡ n / 16777216 = omega arith in
-    omega (arith, div-div-eq-div-mul n 256 256, div-div-eq-div-mul n 65536 256)
+number_back n h = omega (arith, div-div-eq-div-mul n 256 256, div-div-eq-div-mul n 65536 256)
 
 -- the content, as it stands in the record: past the size it is zeros there too
-pub content_byte : (rec : List ℕ) → WellMade rec → (k : ℕ) → 64 + k < length rec → byte rec (64 + k) ≡ byte (content_of rec) k
-content_byte rec w k l =
-    ⊎_elim
-    (λ h. sym (byte-part rec 64 (size_of rec) k h))
-    (λ h. blank_at rec (64 + size_of rec) (length rec) w.past (64 + k) (omega arith) l ∙ sym (get_or_past (content_of rec) k 0 (omega (arith, length_part rec 64 (size_of rec)))))
-    (cases_lt k (size_of rec))
+pub content_byte : (rec : List ℕ) (size : ℕ) → blank rec (64 + size) (length rec) ≡ true → (k : ℕ) → 64 + k < length rec → byte rec (64 + k) ≡ byte (part rec 64 size) k
+content_byte rec size past k l = grind (arith, common_steps, byte-part rec 64 size k, blank_at rec (64 + size) (length rec) past (64 + k), length_part rec 64 size, get_or_past (part rec 64 size) k 0)
 
 module _ (rec : List ℕ) (few : length rec ≤ 2097216) (used : taken rec ≡ true) (fits : record_fits rec ≡ true)
     (at : ℕ) (ds : List ℕ) (some : 0 < length ds) (room : 64 + at + length ds ≤ length rec) where
@@ -46,18 +39,15 @@ module _ (rec : List ℕ) (few : length rec ≤ 2097216) (used : taken rec ≡ t
       let back = number_back n (omega (arith, old.size)) in
       omega arith
 
-  store_length : path_length (stored rec at ds) ≡ path_length rec
-  store_length = head_same 0 (omega arith)
+  store_taken : taken (stored rec at ds) ≡ true
+  store_taken = grind (arith, common_steps, head_same 0)
 
-  pub store_taken : taken (stored rec at ds) ≡ true
-  store_taken = ap (ltb 0) store_length ∙ used
-
-  pub store_path : path_of (stored rec at ds) ≡ path_of rec
+  store_path : path_of (stored rec at ds) ≡ path_of rec
   store_path =
-      ap (part (stored rec at ds) 1) store_length
-      ∙ part_same (stored rec at ds) rec 1 1 (path_length rec) (λ k l. head_same (1 + k) (omega (arith, old.few)))
+      sym (part_is (stored rec at ds) 1 (path_length (stored rec at ds)) (path_of rec) (grind (arith, length_part rec 1 (path_length rec), head_same 0))
+      (λ k l. grind (arith, byte-part rec 1 (path_length rec) k, head_same 0, head_same (1 + k), old.few)))
 
-  pub store_content : content_of (stored rec at ds) ≡ written (content_of rec) at ds
+  store_content : content_of (stored rec at ds) ≡ written (content_of rec) at ds
   store_content =
       let new = stored rec at ds in
       let long = length_part rec 64 (size_of rec) in
@@ -69,7 +59,7 @@ module _ (rec : List ℕ) (few : length rec ≤ 2097216) (used : taken rec ≡ t
       here k l =
           let outside = λ (o : (k < at) ⊎ (at + length ds ≤ k)).
           stored_others rec at ds room (64 + k) (inr (omega arith)) (⊎_elim (λ h. inl (omega arith)) (λ h. inr (omega arith)) o)
-          ∙ content_byte rec old k l ∙ sym (written_others (content_of rec) at ds k o) in
+          ∙ content_byte rec (size_of rec) old.past k l ∙ sym (written_others (content_of rec) at ds k o) in
           ⊎_elim (λ h. outside (inl h))
           (λ h. ⊎_elim
           (λ b. let e : 64 + k ≡ 64 + at + (k - at) = omega arith in let f : at + (k - at) ≡ k = omega arith in
@@ -79,16 +69,19 @@ module _ (rec : List ℕ) (few : length rec ≤ 2097216) (used : taken rec ≡ t
           (cases_lt k (at + length ds)))
           (cases_lt k at)
 
-  pub store_fits : record_fits (stored rec at ds) ≡ true
+  store_fits : record_fits (stored rec at ds) ≡ true
   store_fits =
       let new = stored rec at ds in
       let o = old in
       let size = store_size in
       let same = length-stored rec at ds room in
-      let plen = store_length in
+      let plen = head_same 0 (omega arith) in
       fits_made new store_taken
       ∙ and_from (path_fits (path_of new)) _ (ap path_fits store_path ∙ o.path)
       (and_from (blank new (1 + path_length new) 33) _ (blank_from new (1 + path_length new) 33 (λ k h l. head_same k l ∙ blank_at rec (1 + path_length rec) 33 o.fill k (omega arith) l))
       (and_from (leb (64 + size_of new) (length new)) _ (le-leb (64 + size_of new) (length new) (omega (arith, o.size)))
       (and_from (blank new 37 64) _ (blank_from new 37 64 (λ k h l. stored_others rec at ds room k (inr h) (inl (omega arith)) ∙ blank_at rec 37 64 o.pad k h l))
       (blank_from new (64 + size_of new) (length new) (λ k h l. stored_others rec at ds room k (inr (omega arith)) (inr (omega arith)) ∙ blank_at rec (64 + size_of rec) (length rec) o.past k (omega arith) (omega arith))))))
+
+  pub stored_filed : (L : ℕ) → length rec ≡ 64 + L → Filed L (stored rec at ds) (path_of rec) (written (content_of rec) at ds)
+  stored_filed L e = record { long = length-stored rec at ds room ∙ e; used = store_taken; path = store_path; content = store_content; fits = store_fits }

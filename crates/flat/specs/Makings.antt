@@ -9,14 +9,14 @@ use Rattle.flat.specs.Images.{record_at, unfit_at}
 use Rattle.flat.specs.Meanings.{flat_of, image_of}
 use Rattle.flat.specs.Records.{path_of, size_of, taken}
 use Rattle.flat.specs.Shelves.{flat, none_open, no_files}
-use Rattle.flat.specs.declared.making.Listed.{Listed}
-use Rattle.flat.specs.declared.state.Flat.{Flat}
-use Rattle.flat.specs.declared.state.Unfit.{Unfit}
+use Rattle.flat.specs.declared.shelf.Listed.{Listed}
+use Rattle.flat.specs.declared.shelf.Flat.{Flat}
+use Rattle.flat.specs.declared.shelf.Unfit.{Unfit}
 
 -- the shelf holds the bytes im with the limit L, and nothing is opened
 pub record Holding (im : List ℕ) (L : ℕ) (f : Flat) : Type 0 where
   pub bytes : image_of f ≡ im
-  pub limit : f.limit ≡ L
+  pub limit : f.image.limit ≡ L
   pub means : flat_of f ≡ flat im L none_open
 
 -- an unfit image is declined by 19 at the place where it is unfit, and handed back
@@ -43,11 +43,11 @@ MadeEmpty L (Err NoMemory) = limit_fits L ≡ true
 -- the path and the size in record r, which are those of one of the shelf's files
 pub record ListedFile (f : Flat) (r : ℕ) (x : Listed) : Type 0 where
   pub low : r < 16
-  pub used : taken (record_at (image_of f) f.limit r) ≡ true
-  pub path : x.path.now ≡ path_of (record_at (image_of f) f.limit r)
-  pub size : x.size ≡ size_of (record_at (image_of f) f.limit r)
+  pub used : taken (record_at (image_of f) f.image.limit r) ≡ true
+  pub path : x.path.now ≡ path_of (record_at (image_of f) f.image.limit r)
+  pub size : x.size ≡ size_of (record_at (image_of f) f.image.limit r)
   pub file : option_map (λ g. length g.bytes) ((flat_of f).file x.path.now) ≡ Some x.size
 
 abbrev pub ListedAt : Flat → ℕ → Option Listed → Type 0
-ListedAt f r None = (16 ≤ r) ⊎ (taken (record_at (image_of f) f.limit r) ≡ false)
+ListedAt f r None = (16 ≤ r) ⊎ (taken (record_at (image_of f) f.image.limit r) ≡ false)
 ListedAt f r (Some x) = ListedFile f r x

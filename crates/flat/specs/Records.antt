@@ -5,15 +5,15 @@
 --   bytes 33 to 36   the size, low byte first
 --   bytes 37 to 63   zeros
 --   bytes 64 on      the content, and zeros after it
-use Rattle.std.specs.Prelude.{ℕ, ◌+◌, ◌-◌, ◌*◌, ◌/◌, ◌%◌, max, Bool, true, cond, ◌&&◌, List, [], ◌∷◌, length, ◌==◌, nat_le, nat_lt, slice_set}
+use Rattle.std.specs.Prelude.{ℕ, ◌+◌, ◌-◌, ◌*◌, ◌/◌, ◌%◌, max, Bool, cond, ◌&&◌, List, [], ◌∷◌, length, ◌==◌, nat_le, nat_lt, slice_set}
 use Rattle.std.proofs.Math.Seq.{paste}
+use Rattle.std.specs.List.{list_all}
 use Rattle.std.specs.Str.{bytes_eq}
 use Rattle.device.specs.Contents.{byte, part}
 use Rattle.device.specs.Paths.{Path, path_fits}
 
 abbrev pub all_zero : List ℕ → Bool
-all_zero [] = true
-all_zero (b ∷ bs) = b == 0 && all_zero bs
+all_zero bs = list_all (λ b. b == 0) bs
 
 -- the bytes from a position to below an end are zeros
 abbrev pub blank : List ℕ → ℕ → ℕ → Bool

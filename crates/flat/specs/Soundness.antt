@@ -1,13 +1,14 @@
 -- That a fit image is a sound shelf, as a term that the shelf gives.
-use Rattle.std.specs.Prelude.{◌≡◌, ℕ, ◌+◌, ◌*◌, ◌<◌, ◌≤◌, Bool, true, false, cond, not, List, [], length, is_some, Some, None, Option, ◌==◌, ◌≢◌, slice_index_or, refl}
-use Rattle.std.proofs.Common.{sym, ap, subst, ◌∙◌, ⊎_elim, arith}
+use Rattle.std.specs.Prelude.{◌≡◌, ℕ, ◌+◌, ◌*◌, ◌<◌, ◌≤◌, Bool, true, false, List, [], length, is_some, Some, None, Option, ◌≢◌, slice_index_or, refl}
+use Rattle.std.proofs.Common.{sym, ap, subst, ◌∙◌, arith}
 use Rattle.std.proofs.lemmas.List.{get_or_past}
-use Rattle.std.proofs.lemmas.Bool.{eqb-true, and_parts, cases_lt, cases_order, false≢true, not-false, or_parts}
+use Rattle.std.proofs.lemmas.Grind.{common_steps}
+use Rattle.std.proofs.lemmas.Option.{cond_some}
 use Rattle.std.specs.Option.{option_map}
 use Rattle.device.proofs.Writing.{length_part}
 use Rattle.device.specs.Files.{SoundFile, Counted, Sound, limit_fits, firm}
 use Rattle.device.specs.Paths.{Path, path_fits}
-use Rattle.flat.specs.Images.{Shape, record_at, slot, bad, shape_fits, unfit_at}
+use Rattle.flat.specs.Images.{Shape, record_at, slot, bad, unfit_at}
 use Rattle.flat.specs.Listing.{listed, roll}
 use Rattle.flat.specs.RecordLaws.{shape_from, length-record_at, holds_parts, holds_own, well_made_parts}
 use Rattle.flat.specs.Records.{path_of, size_of, content_of, taken, holds, record_fits}
@@ -22,62 +23,40 @@ pub record FitImage (im : List ℕ) (L : ℕ) : Type 0 where
   pub fits : (r : ℕ) → r < 16 → record_fits (record_at im L r) ≡ true
   pub alone : (r s : ℕ) → r < 16 → s < r → taken (record_at im L r) ≡ true → taken (record_at im L s) ≡ true → path_of (record_at im L s) ≢ path_of (record_at im L r)
 
-none_from : {X : Type 0} (o : Option X) → is_some o ≡ false → o ≡ None
-none_from None e = refl
-none_from (Some x) e = absurd (false≢true (sym e))
-
-some_from : {X : Type 0} (o : Option X) → is_some o ≡ true → (x : X) × (o ≡ Some x)
-some_from None e = absurd (false≢true e)
-some_from (Some x) e = (x, refl)
-
-none≢some : {X : Type 0} (x : X) → None ≢ Some x
-none≢some x e = let z : ◌≡◌ {A = ℕ} 0 1 = cc in omega arith
-
 pub fit_image : (im : List ℕ) (L : ℕ) → is_some (unfit_at im L) ≡ false → FitImage im L
 unfolding unfit_at
 fit_image im L e =
-    let none = none_from (cond (shape_fits im L) (first (bad im L) 16) (Some 16)) e in
-    let by : (b : Bool) → shape_fits im L ≡ b → cond b (first (bad im L) 16) (Some 16) ≡ None → FitImage im L =
-    λ b. elim b as (λ b. shape_fits im L ≡ b → cond b (first (bad im L) 16) (Some 16) ≡ None → FitImage im L) [
-      | true ↦ λ s n. whole s n
-      | false ↦ λ s n. absurd (none≢some 16 (sym n))
-    ] in
-    by (shape_fits im L) refl none
-  where
-    whole : shape_fits im L ≡ true → first (bad im L) 16 ≡ None → FitImage im L
-    whole s n =
-        let parts = and_parts (limit_fits L) (length im == 16 * (64 + L)) s in
-        let good = nowhere_by_first (bad im L) 16 n in
-        let each = λ (r : ℕ) (l : r < 16). or_parts (not (record_fits (record_at im L r))) (is_some (slot im L (path_of (record_at im L r)) r)) (good r l) in
-        record {
-          limit = parts.0;
-          shape = shape_from im L parts.0 (eqb-true (length im) (16 * (64 + L)) parts.1);
-          fits = λ r l. not-false (record_fits (record_at im L r)) (each r l).0;
-          alone = λ r s l h t u same.
-              (let lower = nowhere_by_first (λ q. holds (path_of (record_at im L r)) (record_at im L q)) r (none_from (slot im L (path_of (record_at im L r)) r) (each r l).1) in
-              false≢true (sym (lower s h) ∙ holds_own (path_of (record_at im L r)) (record_at im L s) u same));
-        }
+    let fits : limit_fits L ≡ true = grind (arith, common_steps) in
+    let long : length im ≡ 16 * (64 + L) = grind (arith, common_steps) in
+    let none : first (bad im L) 16 ≡ None = grind (arith, common_steps) in
+    let good = nowhere_by_first (bad im L) 16 none in
+    record {
+      limit = fits;
+      shape = shape_from im L fits long;
+      fits = λ r l. grind (arith, common_steps, good r l);
+      alone = λ r s l h t u same.
+          (let lower : slot im L (path_of (record_at im L r)) r ≡ None = grind (arith, common_steps, good r l) in
+          grind (arith, nowhere_by_first (λ q. holds (path_of (record_at im L r)) (record_at im L q)) r lower s h, holds_own (path_of (record_at im L r)) (record_at im L s) u same));
+    }
 
 firm_sound : (L : ℕ) (c : List ℕ) → length c ≤ L → SoundFile L (firm c)
 firm_sound L c h = record { within = h; sure = omega arith; chosen = record { least = omega arith; most = omega arith; firmly = λ i e. refl } }
 
+some_from : {X : Type 0} (o : Option X) → is_some o ≡ true → (x : X) × (o ≡ Some x)
+some_from None e = cc
+some_from (Some x) e = (x, refl)
+
 mapped_some : {X Y : Type 0} (f : X → Y) (o : Option X) (y : Y) → option_map f o ≡ Some y → (x : X) × (o ≡ Some x) × (y ≡ f x)
-mapped_some f None y e = absurd (none≢some y e)
+mapped_some f None y e = cc
 mapped_some f (Some x) y e = (x, refl, cc)
 
 pub mapped_is : {X Y : Type 0} (f : X → Y) (o : Option X) → is_some (option_map f o) ≡ is_some o
-mapped_is f None = refl
-mapped_is f (Some x) = refl
-
-cond_some : (b : Bool) (x p : Path) → cond b (Some x) None ≡ Some p → (b ≡ true) × (x ≡ p)
-cond_some true x p e = (refl, cc)
-cond_some false x p e = absurd (none≢some p e)
+mapped_is f o = grind (arith, common_steps)
 
 module _ (im : List ℕ) (L : ℕ) (fit : FitImage im L) where
   -- two records with one path are one
   pub one_record : (r s : ℕ) → r < 16 → s < 16 → taken (record_at im L r) ≡ true → taken (record_at im L s) ≡ true → path_of (record_at im L r) ≡ path_of (record_at im L s) → r ≡ s
-  one_record r s a b t u e =
-      ⊎_elim (λ q. q) (λ o. absurd (⊎_elim (λ l. fit.alone s r b l u t e) (λ g. fit.alone r s a g t u (sym e)) o)) (cases_order r s)
+  one_record r s a b t u e = grind (arith, fit.alone r s, fit.alone s r)
 
   pub slot_is : (p : Path) (r : ℕ) → r < 16 → taken (record_at im L r) ≡ true → path_of (record_at im L r) ≡ p → slot im L p 16 ≡ Some r
   slot_is p r l t e =
@@ -114,8 +93,8 @@ module _ (im : List ℕ) (L : ℕ) (fit : FitImage im L) where
 
     pub handle_slot : (h : ℕ) (p : Path) → (flat im L opened).handle h ≡ Some p → Slotted p h
     handle_slot h p e =
-        let s = cond_some (slice_index_or opened h false) (path_of (record_at im L h)) p e in
-        let low : h < 16 = ⊎_elim (λ l. l) (λ o. absurd (false≢true (sym (get_or_past opened h false (omega (arith, live.0))) ∙ s.0))) (cases_lt h 16) in
+        let s = cond_some _ _ _ e in
+        let low : h < 16 = grind (arith, common_steps, live.0, get_or_past opened h false, s.0) in
         record { low = low; used = live.1 h s.0; path = s.1 }
 
     counted : Counted (flat im L opened)

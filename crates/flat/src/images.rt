@@ -1,122 +1,111 @@
 // The image: 16 records, one after the other.
-ghost use Rattle.std.specs.Prelude.{◌≡◌, ◌+◌, ◌<◌, ◌≤◌, length};
-ghost use Rattle.device.specs.Contents.{part};
+ghost use Rattle.std.specs.Prelude.{◌≡◌, ◌+◌, ◌<◌, ◌≤◌, IfSome, Some, length};
 ghost use Rattle.device.specs.Files.{limit_fits};
-ghost use Rattle.flat.specs.Images.{Shape, bad, record_at, replaced, slot, unfit_at, vacancy};
-ghost use Rattle.flat.specs.Records.{labelled, stored};
+ghost use Rattle.flat.specs.Images.{Shape, bad, image_written, labelled_at, record_at, shape_fits, slot, vacancy};
+ghost use Rattle.flat.specs.Searches.{first};
 
-use crate::records::{holds_path, label, record_fits, store};
+use crate::records::{HEAD, PATH, Record, SIZE, SIZE_END};
 
 // How many records there are.
 pub const RECORDS: usize = 16;
-
-// What stands before the content of a record.
-pub const HEAD: usize = 64;
-
-// Record r.
-pub fn record_of(image: &[u8], limit: usize, r: usize) -> &[u8]
-    requires shape { Shape image.now limit }
-    requires low { r < 16 }
-    ensures is { result.now ≡ record_at image.now limit r }
-    ensures long { length result.now ≡ 64 + limit }
-{
-    let at = r * (HEAD + limit);
-    &image[at..at + HEAD + limit]
-}
-
-// The first of n records that is that of a path.
-pub fn find(image: &[u8], limit: usize, path: &[u8], n: usize) -> Option<usize>
-    requires shape { Shape image.now limit }
-    requires few { n ≤ 16 }
-    ensures { result ≡ slot image.now limit path.now n }
-{
-    for r in 0..n {
-        if holds_path(record_of(image, limit, r), path) {
-            return Some(r);
-        }
-    }
-    None
-}
-
-// The lowest free record.
-pub fn vacant(image: &[u8], limit: usize) -> Option<usize>
-    requires { Shape image.now limit }
-    ensures { result ≡ vacancy image.now limit }
-{
-    for r in 0..RECORDS {
-        if record_of(image, limit, r)[0] == 0 {
-            return Some(r);
-        }
-    }
-    None
-}
 
 // Whether a file's size may be limited so.
 pub fn limit_fits(limit: usize) -> bool
     ensures { result ≡ limit_fits limit }
 {
-    limit >= 512 && limit <= 2_097_152 && limit % 512 == 0
+    (512..=2_097_152).contains(&limit) && limit % 512 == 0
 }
 
-// Whether record r is not made as it should be, or has the path of a lower one.
-fn is_bad(image: &[u8], limit: usize, r: usize) -> bool
-    requires shape { Shape image.now limit }
-    requires low { r < 16 }
-    ensures { result ≡ bad image.now limit r }
+// Whether the limit may be so, and the bytes are as many as it asks for.
+pub fn shape_fits(bytes: &[u8], limit: usize) -> bool
+    ensures { result ≡ shape_fits bytes.now limit }
 {
-    let rec = record_of(image, limit, r);
-    if !record_fits(rec) {
-        return true;
-    }
-    let n = rec[0] as usize;
-    find(image, limit, &rec[1..1 + n], r).is_some()
+    limit_fits(limit) && bytes.len() == RECORDS * (HEAD + limit)
 }
 
-// The first bad record, 16 for a wrong limit or length, and none where the image is fit.
-pub fn unfit_at(image: &[u8], limit: usize) -> Option<usize>
-    ensures { result ≡ unfit_at image.now limit }
-{
-    if !limit_fits(limit) || image.len() != RECORDS * (HEAD + limit) {
-        return Some(RECORDS);
-    }
-    for r in 0..RECORDS {
-        if is_bad(image, limit, r) {
-            return Some(r);
+// The bytes of 16 records, and the limit of a file's size.
+#[derive(Drop)]
+pub struct Image {
+    pub limit: usize,
+    pub bytes: Vec<u8>,
+    ghost shape: { Shape bytes.items limit },
+}
+
+impl Image {
+    // Record r. That r is below 16 is asked here and of the calls below: a type for it is no plainer, since a shelf's handles are numbers.
+    #[tactic(auto, using(crate::proofs::Edits::slices))]
+    pub fn record(&self, r: usize) -> Record<'_>
+        requires { r < 16 }
+        ensures is { result.bytes.now ≡ record_at self.now.bytes.items self.now.limit r }
+        ensures long { length result.bytes.now ≡ 64 + self.now.limit }
+    {
+        let at = r * (HEAD + self.limit);
+        Record {
+            bytes: &self.bytes[at..at + HEAD + self.limit],
         }
     }
-    None
-}
 
-// Gives a free record a path.
-pub fn label_record(image: &mut [u8], limit: usize, r: usize, path: &[u8])
-    requires shape { Shape image.old limit }
-    requires low { r < 16 }
-    requires short { length path.now ≤ 32 }
-    ensures { image.new ≡ replaced image.old limit r (labelled (record_at image.old limit r) path.now) }
-{
-    let at = r * (HEAD + limit);
-    label(&mut image[at..at + HEAD + limit], path);
-}
+    // The first of n records that is that of a path.
+    pub fn find(&self, path: &[u8], n: usize) -> Option<usize>
+        requires { n ≤ 16 }
+        ensures first { result ≡ slot self.now.bytes.items self.now.limit path.now n }
+        ensures low { IfSome result (λ r. r < n) }
+    {
+        (0..n).find(|&r| self.record(r).holds(path))
+    }
 
-// Lays bytes into the content of a record, and raises its size to their end.
-pub fn store_record(image: &mut [u8], limit: usize, r: usize, at: usize, bytes: &[u8])
-    requires shape { Shape image.old limit }
-    requires low { r < 16 }
-    requires within { at + length bytes.now ≤ limit }
-    ensures { image.new ≡ replaced image.old limit r (stored (record_at image.old limit r) at bytes.now) }
-{
-    let from = r * (HEAD + limit);
-    store(&mut image[from..from + HEAD + limit], at, bytes);
-}
+    // The lowest free record.
+    pub fn vacant(&self) -> Option<usize>
+        ensures first { result ≡ vacancy self.now.bytes.items self.now.limit }
+        ensures low { IfSome result (λ r. r < 16) }
+    {
+        (0..RECORDS).find(|&r| !self.record(r).is_taken())
+    }
 
-// Fills a buffer from the content of a record.
-pub fn fetch_record(image: &[u8], limit: usize, r: usize, at: usize, buffer: &mut [u8])
-    requires shape { Shape image.now limit }
-    requires low { r < 16 }
-    requires within { at + length buffer.old ≤ limit }
-    ensures { buffer.new ≡ part (record_at image.now limit r) (64 + at) (length buffer.old) }
-{
-    let rec = record_of(image, limit, r);
-    let end = HEAD + at + buffer.len();
-    buffer.copy_from_slice(&rec[HEAD + at..end]);
+    // The first record that is not as it should be.
+    pub fn first_bad(&self) -> Option<usize>
+        ensures { result ≡ first (bad self.now.bytes.items self.now.limit) 16 }
+    {
+        (0..RECORDS).find(|&r| self.is_bad(r))
+    }
+
+    // Whether record r is not made as it should be, or has the path of a lower one.
+    fn is_bad(&self, r: usize) -> bool
+        requires { r < 16 }
+        ensures { result ≡ bad self.now.bytes.items self.now.limit r }
+    {
+        let record = self.record(r);
+        !record.fits() || self.find(record.path(), r).is_some()
+    }
+
+    // Gives a free record a path.
+    pub fn label(&mut self, r: usize, path: &[u8])
+        requires low { r < 16 }
+        requires short { length path.now ≤ 32 }
+        ensures bytes { self.new.bytes.items ≡ labelled_at self.old.bytes.items self.old.limit path.now (Some r) }
+        ensures limit { self.new.limit ≡ self.old.limit }
+    {
+        // Where record r begins stands in three calls: to lend it out for writing needs a starred clause, which is no plainer.
+        let at = r * (HEAD + self.limit);
+        let record = &mut self.bytes[at..at + HEAD + self.limit];
+        record[0] = path.len() as u8;
+        record[PATH..PATH + path.len()].copy_from_slice(path);
+    }
+
+    // Lays bytes into the content of a record, and raises its size to their end. No bytes change nothing.
+    pub fn store(&mut self, r: usize, at: usize, bytes: &[u8])
+        requires low { r < 16 }
+        requires within { at + length bytes.now ≤ self.old.limit }
+        ensures bytes { self.new.bytes.items ≡ image_written self.old.bytes.items self.old.limit r at bytes.now }
+        ensures limit { self.new.limit ≡ self.old.limit }
+    {
+        if bytes.is_empty() {
+            return;
+        }
+        let size = self.record(r).size().max(at + bytes.len());
+        let start = r * (HEAD + self.limit);
+        let record = &mut self.bytes[start..start + HEAD + self.limit];
+        record[HEAD + at..HEAD + at + bytes.len()].copy_from_slice(bytes);
+        record[SIZE..SIZE_END].copy_from_slice(&(size as u32).to_le_bytes());
+    }
 }

@@ -2,10 +2,7 @@
 #![tactic(auto)]
 
 mod images;
-mod making;
 mod records;
 mod shelf;
-mod state;
 
-pub use making::Listed;
-pub use state::{Flat, Unfit};
+pub use shelf::{Flat, Listed, Unfit};

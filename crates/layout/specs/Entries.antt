@@ -1,10 +1,12 @@
 -- Entries of the log, and groups of them.
-use Rattle.std.specs.Prelude.{◌≡◌, ℕ, ◌+◌, ◌-◌, ◌≤◌, Bool, cond, ◌&&◌, ◌||◌, List, [], ◌∷◌, ◌++◌, map, length, drop, replicate, Some, None, Ok, Err, Option, Result, ◌==◌, nat_le, nat_lt, slice_index, slice_index_or}
+use Rattle.std.specs.Prelude.{◌≡◌, ℕ, ◌+◌, ◌-◌, Bool, cond, ◌&&◌, List, [], ◌∷◌, ◌++◌, map, length, drop, replicate, Some, None, Ok, Err, Option, Result, nat_le, nat_lt, slice_index, slice_index_or}
 use Rattle.std.specs.Str.{bytes_eq}
 use Rattle.device.specs.declared.Fault.{Fault}
 use Rattle.device.specs.Numbers.{Says}
 use Rattle.layout.specs.declared.entries.Piece.{Piece as Given}
 use Rattle.layout.specs.declared.entries.Entry.{Entry as Held}
+use Rattle.layout.specs.declared.marks.Mark.{Mark}
+use Rattle.layout.specs.Marks.{mark_of, is_mark, mark_word, Marked}
 use Rattle.layout.specs.Packing.{packed, unpacked}
 
 -- a run of bytes and where it goes in its file
@@ -22,13 +24,6 @@ pub record Entry : Type 0 where
   pub row : ℕ
   pub offset : ℕ
   pub bytes : List ℕ
-
--- the mark of the entry d places after the first one of a committed group of k
-abbrev pub mark_of : ℕ → ℕ → ℕ
-mark_of k d = cond (d == 0) k (16 + d)
-
-abbrev pub is_mark : ℕ → Bool
-is_mark m = (nat_le 1 m && nat_le m 8) || (nat_le 17 m && nat_le m 23)
 
 -- 1 to 512 bytes that end within the largest file
 abbrev pub piece_fits : ℕ → ℕ → Bool
@@ -69,14 +64,21 @@ plain p = record { offset = p.offset; bytes = p.bytes.now }
 abbrev pub group_of : ℕ → List Given → Group
 group_of r ps = record { row = r; pieces = map plain ps }
 
+-- one piece as the code is given it, as an entry with a mark
+abbrev pub piece_entry : ℕ → Mark → Given → Entry
+piece_entry row mark p = record { mark = mark_word mark; row = row; offset = p.offset; bytes = p.bytes.now }
+
+-- an entry's words, where it is fit
+abbrev pub words_if_fit : Entry → Option (List ℕ)
+words_if_fit e = cond (entry_fits e) (Some (entry_words e)) None
+
 -- the entry that the code holds: its bytes stand at the front, with zeros after them
 pub record Holds (x : Held) (e : Entry) : Type 0 where
-  pub mark : x.mark ≡ e.mark
+  pub mark : Marked x.mark e.mark
   pub row : x.row ≡ e.row
   pub offset : x.offset ≡ e.offset
-  pub count : x.count ≡ length e.bytes
-  pub few : x.count ≤ 512
-  pub front : x.bytes ≡ e.bytes ++ replicate (512 - length e.bytes) 0
+  pub count : x.bytes.count ≡ length e.bytes
+  pub front : x.bytes.bytes ≡ e.bytes ++ replicate (512 - length e.bytes) 0
 
 -- the code read an entry as the definition does, or declines it
 abbrev pub EntryRead : List ℕ → ℕ → Result Held Fault → Type 0

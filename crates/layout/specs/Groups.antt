@@ -3,7 +3,8 @@ use Rattle.std.specs.Prelude.{ℕ, zero, suc, ◌+◌, ◌*◌, ◌%◌, Bool, t
 use Rattle.std.proofs.Math.Seq.{paste}
 use Rattle.std.specs.List.{range_with_len, flat_map}
 use Rattle.std.specs.Option.{option_map}
-use Rattle.layout.specs.Entries.{Piece, Group, Entry, mark_of, entry_fits, entry_words, entry_of, read_entry}
+use Rattle.layout.specs.Entries.{Piece, Group, Entry, entry_fits, entry_words, entry_of, read_entry}
+use Rattle.layout.specs.Marks.{mark_of}
 use Rattle.layout.specs.Places.{entry_at}
 
 -- the words of the first n entries of a group, one entry after the other

@@ -1,6 +1,8 @@
 pub mod Packing
 pub mod Places
+pub mod Counts
 pub mod Rows
+pub mod Marks
 pub mod Entries
 pub mod Groups
 pub mod Writes

@@ -1,17 +1,11 @@
 -- Rows of names: five words, the path's length and 32 path bytes, filled up with zeros. A free row has length 0.
-use Rattle.std.specs.Prelude.{◌≡◌, ℕ, ◌-◌, ◌≤◌, Bool, true, cond, not, ◌&&◌, List, [], ◌∷◌, ◌++◌, length, drop, replicate, Some, None, Ok, Err, Option, Result, ◌==◌, nat_le, slice_index}
+use Rattle.std.specs.Prelude.{◌≡◌, ℕ, ◌-◌, cond, ◌&&◌, List, ◌∷◌, ◌++◌, length, drop, replicate, Some, None, Ok, Err, Option, Result, slice_index}
 use Rattle.std.specs.Str.{bytes_eq}
 use Rattle.device.specs.declared.Fault.{Fault}
 use Rattle.device.specs.Numbers.{Told, refusal, Says}
-use Rattle.layout.specs.declared.rows.Name.{Name}
+use Rattle.device.specs.Paths.{path_fits}
+use Rattle.layout.specs.declared.fronts.Front.{Front}
 use Rattle.layout.specs.Packing.{packed, unpacked}
-
-abbrev pub no_zero : List ℕ → Bool
-no_zero [] = true
-no_zero (b ∷ bs) = not (b == 0) && no_zero bs
-
-abbrev pub path_fits : List ℕ → Bool
-path_fits path = nat_le 1 (length path) && (nat_le (length path) 32 && no_zero path)
 
 unfoldable pub row_words : List ℕ → List ℕ
 row_words path = length path ∷ packed 4 path
@@ -28,12 +22,11 @@ unfoldable pub read_path : List ℕ → Option (List ℕ)
 read_path ws = cond (path_fits (said_path ws) && bytes_eq ws (row_words (said_path ws))) (Some (said_path ws)) None
 
 -- the path that the code holds, with zeros after it
-pub record Holds (n : Name) (path : List ℕ) : Type 0 where
-  pub long : n.length ≡ length path
-  pub few : n.length ≤ 32
+pub record Holds (n : Front 32) (path : List ℕ) : Type 0 where
+  pub long : n.count ≡ length path
   pub front : n.bytes ≡ path ++ replicate (32 - length path) 0
 
 -- the code read a row as the definition does, or declines it
-abbrev pub RowRead : List ℕ → ℕ → Result Name Fault → Type 0
+abbrev pub RowRead : List ℕ → ℕ → Result (Front 32) Fault → Type 0
 RowRead ws r (Ok n) = (path : List ℕ) × (read_path ws ≡ Some path) × Holds n path
 RowRead ws r (Err e) = (read_path ws ≡ None) × Says e 17 1 r

@@ -1,9 +1,13 @@
 // Entries of the log: a mark, a row of names, a file offset, a byte count and 64 payload words.
-ghost use Rattle.std.specs.Prelude.{◌≡◌, ◌≤◌, ◌&&◌, length, IfSome, Some, nat_lt};
+ghost use Rattle.std.specs.Prelude.{◌≡◌, ◌≤◌, ◌&&◌, length, IfSome, Some, nat_lt, true};
+ghost use Rattle.layout.specs.Entries.{piece_fits, piece_entry, words_if_fit, entry_words, entry_of, entry_words_of, group_of, read_entry, EntryRead};
+ghost use Rattle.layout.specs.Marks.{is_mark, mark_word};
 ghost use Rattle.layout.specs.Packing.{Bytes};
-ghost use Rattle.layout.specs.Entries.{is_mark, mark_of, piece_fits, entry_words, entry_of, entry_words_of, group_of, read_entry, EntryRead};
 
-use crate::packing::{pack, same_words, unpack_front};
+use crate::fronts::Front;
+use crate::marks::Mark;
+use crate::packing::pack;
+use crate::places::{ENTRY_WORDS, ROWS};
 use device::{Fault, Layer, Refusal};
 
 pub const MOST_GROUP: usize = 8;
@@ -19,41 +23,20 @@ pub struct Piece<'a> {
     pub bytes: &'a [u8],
 }
 
-// An entry that was read from its words: `count` bytes, and zeros after them.
+// An entry that was read from its words.
 #[derive(Clone, Copy)]
 pub struct Entry {
-    pub mark: u64,
+    pub mark: Mark,
     pub row: u64,
     pub offset: u64,
-    pub count: usize,
-    pub bytes: [u8; 512],
+    pub bytes: Front<512>,
 }
 
-fn is_mark(mark: u64) -> bool
-    ensures { result ≡ is_mark mark }
+// Whether there is such a row, and 1 to 512 bytes end within the largest file.
+fn place_fits(row: u64, offset: u64, count: u64) -> bool
+    ensures { result ≡ (nat_lt row 16 && piece_fits offset count) }
 {
-    (mark >= 1 && mark <= 8) || (mark >= 17 && mark <= 23)
-}
-
-// Whether 1 to 512 bytes end within the largest file.
-fn piece_fits(offset: u64, count: u64) -> bool
-    ensures { result ≡ piece_fits offset count }
-{
-    count >= 1 && count <= PIECE as u64 && offset <= MOST_FILE - count
-}
-
-fn entry_fits(mark: u64, row: u64, offset: u64, count: u64) -> bool
-    ensures { result ≡ (is_mark mark && (nat_lt row 16 && piece_fits offset count)) }
-{
-    is_mark(mark) && row < 16 && piece_fits(offset, count)
-}
-
-// The mark of the entry d places after the first one of a group of k.
-fn mark_of(k: usize, d: usize) -> u64
-    requires { d ≤ 8 }
-    ensures { result ≡ mark_of k d }
-{
-    if d == 0 { k as u64 } else { 16 + d as u64 }
+    row < ROWS as u64 && (1..=PIECE as u64).contains(&count) && offset <= MOST_FILE - count
 }
 
 fn words_of(mark: u64, row: u64, offset: u64, bytes: &[u8]) -> [u64; 68]
@@ -66,8 +49,20 @@ fn words_of(mark: u64, row: u64, offset: u64, bytes: &[u8]) -> [u64; 68]
     words[1] = row;
     words[2] = offset;
     words[3] = bytes.len() as u64;
-    let _ = pack(bytes, &mut words[4..68]);
+    let _ = pack(bytes, &mut words[4..]);
     words
+}
+
+// The words of one piece, as an entry with a mark.
+pub(crate) fn piece_words(row: u64, mark: Mark, piece: &Piece<'_>) -> Option<[u64; 68]>
+    requires { is_mark (mark_word mark) ≡ true }
+    ensures words { result ≡ words_if_fit (piece_entry row mark piece.now) }
+    ensures reads_back { IfSome result (λ ws. read_entry ws ≡ Some (piece_entry row mark piece.now)) }
+{
+    if !place_fits(row, piece.offset, piece.bytes.len() as u64) {
+        return None;
+    }
+    Some(words_of(mark.into(), row, piece.offset, piece.bytes))
 }
 
 // The words of the entry d places after the first one of a group, its mark included.
@@ -79,43 +74,34 @@ pub fn entry_words(row: u64, pieces: &[Piece<'_>], d: usize) -> Option<[u64; 68]
     if k > MOST_GROUP || d >= k {
         return None;
     }
-    let piece = pieces[d];
-    let mark = mark_of(k, d);
-    if !entry_fits(mark, row, piece.offset, piece.bytes.len() as u64) {
-        return None;
-    }
-    Some(words_of(mark, row, piece.offset, piece.bytes))
+    piece_words(row, Mark::of(k, d), &pieces[d])
 }
 
 // The entry that 68 words hold. `position` is the place that a refusal names.
 pub fn read_entry(words: &[u64], position: u64) -> Result<Entry, Fault>
     ensures { EntryRead words.now position result }
 {
-    let bad = Fault {
-        refusal: Refusal::BadEntry,
-        layer: Layer::Log,
-        place: position,
-    };
-    if words.len() != 68 {
+    let bad = Layer::Log.declines(Refusal::BadEntry, position);
+    if words.len() != ENTRY_WORDS {
         return Err(bad);
     }
-    let mark = words[0];
+    let Ok(mark) = Mark::try_from(words[0]) else {
+        return Err(bad);
+    };
     let row = words[1];
     let offset = words[2];
-    if !entry_fits(mark, row, offset, words[3]) {
+    if !place_fits(row, offset, words[3]) {
         return Err(bad);
     }
-    let count = words[3] as usize;
-    let bytes: [u8; 512] = unpack_front(&words[4..68], count);
-    let again = words_of(mark, row, offset, &bytes[0..count]);
-    if !same_words(words, &again) {
+    let bytes: Front<512> = Front::unpacked(&words[4..], words[3] as usize);
+    let again = words_of(words[0], row, offset, bytes.as_slice());
+    if words != again.as_slice() {
         return Err(bad);
     }
     Ok(Entry {
         mark,
         row,
         offset,
-        count,
         bytes,
     })
 }

@@ -6,7 +6,7 @@ ghost use Rattle.layout.specs.Entries.{plain};
 ghost use Rattle.layout.specs.Writes.{write_for, piece_for, Split};
 
 use crate::entries::{PIECE, Piece};
-use device::{Failure, Fault, Layer, Refusal};
+use device::{Failure, Fault, Layer, Refusal, run_fits};
 use std::alloc::Global;
 
 pub const MOST_WRITE: usize = 4096;
@@ -16,30 +16,22 @@ pub fn entries_for(limit: u64, offset: u64, length: usize) -> Result<usize, Faul
     ensures { answer result ≡ write_for limit offset length }
 {
     if length > MOST_WRITE {
-        return Err(Fault {
-            refusal: Refusal::WriteTooLong,
-            layer: Layer::Machine,
-            place: length as u64,
-        });
+        return Err(Layer::Machine.declines(Refusal::WriteTooLong, length as u64));
     }
     if length == 0 {
         return Ok(0);
     }
-    if offset > limit || length as u64 > limit - offset {
-        return Err(Fault {
-            refusal: Refusal::PastLimit,
-            layer: Layer::Machine,
-            place: limit,
-        });
+    if !run_fits(offset as usize, length, limit as usize) {
+        return Err(Layer::Machine.declines(Refusal::PastLimit, limit));
     }
-    Ok((length + PIECE - 1) / PIECE)
+    Ok(length.div_ceil(PIECE))
 }
 
 // Piece d of a write; none past the last one, or where its offset is no 64-bit number.
 pub fn piece_of<'a>(offset: u64, bytes: &'a [u8], d: usize) -> Option<Piece<'a>>
     ensures { option_map plain result ≡ piece_for offset bytes.now d }
 {
-    if d >= (bytes.len() + PIECE - 1) / PIECE {
+    if d >= bytes.len().div_ceil(PIECE) {
         return None;
     }
     let from = PIECE * d;
@@ -62,8 +54,9 @@ pub fn split<'a>(
 {
     entries_for(limit, offset, bytes.len())?;
     let mut pieces = Vec::new(heap);
-    while let Some(piece) = piece_of(offset, bytes, pieces.len()) {
-        pieces.push(piece)?;
+    for (d, bytes) in bytes.chunks(PIECE).enumerate() {
+        let offset = offset + (PIECE * d) as u64;
+        pieces.push(Piece { offset, bytes })?;
     }
     Ok(pieces)
 }

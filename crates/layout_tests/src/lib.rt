@@ -4,10 +4,10 @@
 
 #[cfg(test)]
 mod tests {
-    use device::{Fault, Layer, Refusal};
+    use device::{Layer, Refusal};
     use layout::{
-        Piece, entry_words, group_words, log_width, pack, read_entry, read_row, row_words, split,
-        unpack,
+        Mark, Piece, entry_words, group_words, log_width, pack, read_entry, read_row, row_words,
+        split, unpack,
     };
     use std::test::Fail;
 
@@ -34,32 +34,22 @@ mod tests {
 
     #[test]
     fn each_way_an_entry_is_wrong(rt: HostRuntime) -> Result<(), Fail> {
-        let good = entry_words(
-            3,
-            &[Piece {
-                offset: 40,
-                bytes: b"vote",
-            }],
-            0,
-        )
-        .ok_or("no words")?;
+        let piece = Piece {
+            offset: 40,
+            bytes: b"vote",
+        };
+        let good = entry_words(3, &[piece], 0).ok_or("no words")?;
         assert!(rt; good[4] == 0x6574_6f76);
         let entry = read_entry(&good, 5)?;
-        assert!(rt; entry.mark == 1 && entry.row == 3 && entry.offset == 40 && entry.count == 4);
-        let bad_entry = Fault {
-            refusal: Refusal::BadEntry,
-            layer: Layer::Log,
-            place: 5,
-        };
+        assert!(rt; entry.mark == Mark::First(1) && entry.row == 3 && entry.offset == 40);
+        assert!(rt; entry.bytes.count == 4);
+        let bad_entry = Layer::Log.declines(Refusal::BadEntry, 5);
         for (i, v) in BAD_WORDS {
             let mut words = good;
             if i < 68 {
                 words[i] = v;
             }
-            match read_entry(&words, 5) {
-                Ok(_) => return Err(Fail::new("taken")),
-                Err(e) => assert_eq!(rt; e, bad_entry),
-            }
+            assert_eq!(rt; read_entry(&words, 5).err(), Some(bad_entry));
         }
         assert!(rt; read_entry(&good[0..67], 5).is_err());
         assert!(rt; read_entry(&good, 5).is_ok());
@@ -68,34 +58,19 @@ mod tests {
 
     // Bytes that differ from their neighbours.
     fn sample() -> [u8; 513] {
-        let mut bytes = [0; 513];
-        for i in 0..513usize {
-            bytes[i] = ((i * 7 + 3) % 251) as u8;
-        }
-        bytes
+        std::array::from_fn(|i| ((i * 7 + 3) % 251) as u8)
     }
 
-    // Whether byte k of word j is byte 8 * j + k, and 0 past the last byte.
+    // Whether the words have these bytes, low byte first, and then zeros.
     fn holds(words: &[u64], bytes: &[u8]) -> bool {
-        for (j, word) in words.iter().enumerate() {
-            for (k, byte) in word.to_le_bytes().iter().enumerate() {
-                let i = j.saturating_mul(8).saturating_add(k);
-                if *byte != bytes.get(i).copied().unwrap_or(0) {
-                    return false;
-                }
-            }
-        }
-        true
+        let mut held = words.iter().flat_map(|word| word.to_le_bytes());
+        bytes.iter().all(|byte| held.next() == Some(*byte)) && held.all(|byte| byte == 0)
     }
 
     // Whether `back` is `bytes` and then zeros.
     fn begins(back: &[u8], bytes: &[u8]) -> bool {
-        for (i, byte) in back.iter().enumerate() {
-            if *byte != bytes.get(i).copied().unwrap_or(0) {
-                return false;
-            }
-        }
-        bytes.len() <= back.len()
+        back.strip_prefix(bytes)
+            .is_some_and(|rest| rest.iter().all(|byte| *byte == 0))
     }
 
     #[test]
@@ -104,15 +79,15 @@ mod tests {
         for n in [1usize, 7, 8, 9, 511, 512] {
             if n <= 512 {
                 let mut words = [u64::MAX; 64];
-                assert!(rt; pack(&bytes[0..n], &mut words));
+                assert!(rt; pack(&bytes[0..n], &mut words).is_ok());
                 assert!(rt; holds(&words, &bytes[0..n]));
                 let mut back = [255u8; 512];
-                assert!(rt; unpack(&words, &mut back));
+                assert!(rt; unpack(&words, &mut back).is_ok());
                 assert!(rt; begins(&back, &bytes[0..n]));
             }
         }
         let mut words = [7; 64];
-        assert!(rt; !pack(&bytes, &mut words));
+        assert!(rt; pack(&bytes, &mut words).is_err());
         assert!(rt; words[0] == 7 && words[63] == 7);
     }
 
@@ -133,25 +108,18 @@ mod tests {
         let row = row_words(b"votes/friday")?;
         assert!(rt; row[0] == 12 && row[1] == 0x72662f7365746f76 && row[4] == 0);
         let name = read_row(&row, 9)?;
-        assert!(rt; name.length == 12 && name.bytes[11] == b'y' && name.bytes[12] == 0);
+        assert!(rt; name.count == 12 && name.bytes[11] == b'y' && name.bytes[12] == 0);
         assert!(rt; row_words(b"").is_err());
         assert!(rt; row_words(b"a\0b").is_err());
         assert!(rt; row_words(&[65; 32]).is_ok() && row_words(&[65; 33]).is_err());
+        let bad_row = Layer::Log.declines(Refusal::BadRow, 9);
         let mut fill = row;
         fill[4] = 1;
-        assert_eq!(rt; read_row(&fill, 9).err(), Some(bad_row(9)));
+        assert_eq!(rt; read_row(&fill, 9).err(), Some(bad_row));
         let mut longer = row;
         longer[0] = 33;
-        assert_eq!(rt; read_row(&longer, 9).err(), Some(bad_row(9)));
+        assert_eq!(rt; read_row(&longer, 9).err(), Some(bad_row));
         Ok(())
-    }
-
-    fn bad_row(row: u64) -> Fault {
-        Fault {
-            refusal: Refusal::BadRow,
-            layer: Layer::Log,
-            place: row,
-        }
     }
 
     #[test]

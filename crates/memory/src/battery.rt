@@ -4,8 +4,8 @@ ghost use Rattle.device.specs.Words.{resting};
 ghost use Rattle.memory.specs.Soundness.{resting_sound};
 ghost use Rattle.memory.specs.Meanings.{battery_of};
 
-use crate::faults::at_word;
-use device::{Fault, Module, Refusal};
+use crate::bounds::check_word;
+use device::{Fault, Module, check_run};
 
 // Every store is sure when it returns.
 #[derive(Drop)]
@@ -31,26 +31,18 @@ impl<'a> Module for Battery<'a> {
     }
 
     fn load(&mut self, i: usize) -> Result<u64, Fault> {
-        if i >= self.width() {
-            return Err(at_word(Refusal::OutOfRange, i));
-        }
+        check_word(i, self.width())?;
         Ok(self.words[i])
     }
 
     fn store(&mut self, i: usize, v: u64) -> Result<(), Fault> {
-        if i >= self.width() {
-            return Err(at_word(Refusal::OutOfRange, i));
-        }
+        check_word(i, self.width())?;
         self.words[i] = v;
         Ok(())
     }
 
     fn settle(&mut self, i: usize, c: usize) -> Result<(), Fault> {
-        let w = self.width();
-        if i > w || c > w - i {
-            return Err(at_word(Refusal::OutOfRange, i));
-        }
-        Ok(())
+        check_run(i, c, self.width())
     }
 
     fn restart(&mut self) {}

@@ -2,7 +2,7 @@
 #![tactic(auto)]
 
 mod battery;
-mod faults;
+mod bounds;
 mod power;
 mod staged;
 

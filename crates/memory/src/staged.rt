@@ -1,15 +1,17 @@
 // A module whose stores are sure only once settled, and whose power fails when told to.
-ghost use Rattle.std.specs.Prelude.{◌≡◌, true, not, if◌then◌else◌};
+ghost use Rattle.std.specs.Prelude.{◌≡◌, ◌+◌, ◌≤◌, true, not, if◌then◌else◌, length, drop};
+ghost use Rattle.std.proofs.Math.Seq.{paste};
 ghost use Rattle.device.specs.ModuleCalls.{Loaded, Stored, Settled, Restarted};
 ghost use Rattle.memory.specs.Soundness.{staged_sound};
 ghost use Rattle.memory.specs.Meanings.{plan_of, staged, staged_of};
-ghost use Rattle.memory.specs.Plans.{bit_set, lasts, drawn, failed, renewed};
+ghost use Rattle.memory.specs.Plans.{bit_set, found_words, lasts, drawn, failed, renewed};
 
-use crate::faults::at_word;
+use crate::bounds::check_word;
 use crate::power::Power;
-use device::{Fault, Module, Refusal};
+use device::{Fault, Layer, Module, Refusal, check_run};
 
-// As wide as the shorter of its slices.
+// As wide as the shorter of its slices. Two slices side by side, and no slice of pairs, since a module stands over lent words, in fixed
+// memory.
 #[derive(Drop)]
 pub struct Staged<'a> {
     current: &'a mut [u64],
@@ -48,12 +50,8 @@ impl<'a> Module for Staged<'a> {
         ensures fails { failed result ≡ not (plan_of self.old).on }
         ensures planned { plan_of self.new ≡ plan_of self.old }
     {
-        if !self.power.on {
-            return Err(at_word(Refusal::PowerFailed, i));
-        }
-        if i >= self.width() {
-            return Err(at_word(Refusal::OutOfRange, i));
-        }
+        self.power.check(i)?;
+        check_word(i, self.width())?;
         Ok(self.current[i])
     }
 
@@ -63,14 +61,10 @@ impl<'a> Module for Staged<'a> {
         ensures planned { plan_of self.new ≡ drawn (plan_of self.old) }
         ensures unsure { (staged_of self.new).sure ≡ (staged_of self.old).sure }
     {
-        if !self.power.draw() {
-            return Err(at_word(Refusal::PowerFailed, i));
-        }
-        if i >= self.width() {
-            return Err(at_word(Refusal::OutOfRange, i));
-        }
+        self.power.draw(i)?;
+        check_word(i, self.width())?;
         if self.current[i] != self.sure[i] {
-            return Err(at_word(Refusal::UnsettledWord, i));
+            return Err(Layer::Module.declines(Refusal::UnsettledWord, i as u64));
         }
         self.current[i] = v;
         Ok(())
@@ -81,16 +75,11 @@ impl<'a> Module for Staged<'a> {
         ensures fails { failed result ≡ not (lasts (plan_of self.old)) }
         ensures planned { plan_of self.new ≡ drawn (plan_of self.old) }
     {
-        if !self.power.draw() {
-            return Err(at_word(Refusal::PowerFailed, i));
-        }
-        let w = self.width();
-        if i > w || c > w - i {
-            return Err(at_word(Refusal::OutOfRange, i));
-        }
-        for k in 0..c {
-            self.sure[i + k] = self.current[i + k];
-        }
+        self.power.draw(i)?;
+        check_run(i, c, self.width())?;
+        let current = &mut *self.current;
+        let sure = &mut *self.sure;
+        copy_run(current, sure, i, c);
         Ok(())
     }
 
@@ -98,13 +87,11 @@ impl<'a> Module for Staged<'a> {
         ensures restarted { Restarted (staged_of self.old) (staged_of self.new) }
         ensures planned { plan_of self.new ≡ renewed (plan_of self.old) }
     {
-        let pattern = self.pattern;
         let w = self.width();
-        for i in 0..w {
-            let value = found(pattern, i, self.current[i], self.sure[i]);
-            self.current[i] = value;
-            self.sure[i] = value;
-        }
+        let current = &mut *self.current;
+        let sure = &mut *self.sure;
+        find_words(self.pattern, &mut current[..w], &sure[..w]);
+        copy_run(current, sure, 0, w);
         self.power.renew();
     }
 }
@@ -117,5 +104,26 @@ fn found(pattern: u64, i: usize, current: u64, sure: u64) -> u64
         current
     } else {
         sure
+    }
+}
+
+// Copies the run of `count` words from word i on. As a line of `settle`, from field to field, it was tried and does not prove: the words are
+// lost to the proof.
+fn copy_run(from: &[u64], to: &mut [u64], i: usize, count: usize)
+    requires from_long { i + count ≤ length from.now }
+    requires to_long { i + count ≤ length to.old }
+    ensures { to.new ≡ paste to.old i (drop i from.now) count }
+{
+    to[i..i + count].copy_from_slice(&from[i..i + count]);
+}
+
+// Makes what is found of each word its current value. A loop over the `zip` of two `iter_mut` was tried and does not prove: what it writes
+// is lost to the proof.
+fn find_words(pattern: u64, current: &mut [u64], sure: &[u64])
+    requires { length current.old ≤ length sure.now }
+    ensures { current.new ≡ found_words pattern current.old sure.now }
+{
+    for (i, word) in current.iter_mut().enumerate() {
+        *word = found(pattern, i, *word, sure[i]);
     }
 }

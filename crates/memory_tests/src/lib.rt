@@ -10,6 +10,8 @@ mod tests {
     use std::test::Fail;
     use write_log::{load_run, put_run};
 
+    // Loops go over word numbers where a call takes one: a module is no slice.
+
     const NO_CUT: [u64; 4] = [u64::MAX; 4];
 
     const ALL_ONES: u64 = u64::MAX;
@@ -18,16 +20,7 @@ mod tests {
 
     // Whether a call is declined for this reason at word i.
     fn declines<T: Drop>(answer: Result<T, Fault>, why: Refusal, i: usize) -> bool {
-        match answer {
-            Ok(_) => false,
-            Err(e) => {
-                e == Fault {
-                    refusal: why,
-                    layer: Layer::Module,
-                    place: i as u64,
-                }
-            }
-        }
+        answer.err() == Some(Layer::Module.declines(why, i as u64))
     }
 
     #[test]
@@ -61,7 +54,7 @@ mod tests {
             module.settle(2, 4)?;
             module.restart();
             for i in 0..8usize {
-                let settled = i >= 2 && i < 6;
+                let settled = (2..6).contains(&i);
                 let found = if settled || (pattern >> i) % 2 == 1 {
                     9
                 } else {
@@ -257,10 +250,10 @@ mod tests {
         module.restart();
         let mut found = [0; 8];
         load_run(&mut module, 0, &mut found)?;
-        for (i, v) in found.iter().enumerate() {
-            let stored = i >= 2 && i < 6;
-            assert!(rt; *v == 1 || (stored && *v == 9));
-            assert!(rt; count < 5 || !stored || *v == 9);
+        for (i, &v) in found.iter().enumerate() {
+            let stored = (2..6).contains(&i);
+            assert!(rt; v == 1 || (stored && v == 9));
+            assert!(rt; count < 5 || !stored || v == 9);
         }
         Ok(())
     }

@@ -1,9 +1,9 @@
 -- The row that a path gets, found in the words before the tail.
-use Rattle.std.proofs.Common.{◌≡◌, ℕ, ◌+◌, ◌<◌, ◌≤◌, Bool, false, not, ◌&&◌, eqb, ltb, List, length, get_or, take, drop, Some, None, Ok, Err, Option, sym, ap, ◌∙◌, subst, inl, inr, ⊎_elim, arith}
+use Rattle.std.proofs.Common.{◌≡◌, ℕ, ◌+◌, ◌<◌, ◌≤◌, Bool, true, false, not, ◌&&◌, eqb, ltb, List, length, get_or, take, drop, Some, None, Ok, Err, Option, sym, ap, ◌∙◌, subst, inl, inr, ⊎_elim, arith}
 use lib.Seq.{paste}
-use Rattle.std.proofs.lemmas.List.Edits.{length-paste}
 use Rattle.std.proofs.lemmas.List.{length-take, length-drop, get_or-take, get_or-drop, ext_get_or}
 use Rattle.std.proofs.lemmas.Bool.{cases_lt, le-ltb}
+use Rattle.std.specs.Option.{MatchOption}
 use Rattle.device.specs.Numbers.{Says}
 use Rattle.device.specs.declared.Fault.{Fault}
 use Rattle.layout.specs.Places.{row_at}
@@ -15,6 +15,11 @@ use Rattle.nvlog.specs.Rows.{RowIs, FreeRow, FirstRow, Named, taken_row}
 -- a log that fits has all its rows of names
 pub names_wide : (s : State) → Fit s → 88 ≤ length s.words
 names_wide s fit = omega arith
+
+-- the lowest row that passes a test, as a search finds it
+pub first_by : (p : ℕ → Bool) (P : ℕ → Type 0) → ((q : ℕ) → p q ≡ true → P q) → ((q : ℕ) → p q ≡ false → P q → ⊥) → (r : Option ℕ) → MatchOption r ((k : ℕ) → 0 ≤ k → k < 16 → p k ≡ false) (λ i. (0 ≤ i) × (i < 16) × (p i ≡ true) × ((k : ℕ) → 0 ≤ k → k < i → p k ≡ false)) → FirstRow P r
+first_by p P holds fails (Some r) found = (found.1, holds r found.2, λ q lt. fails q (found.3 q (omega arith) lt))
+first_by p P holds fails None found = λ q lt. fails q (found q (omega arith) lt)
 
 first_row : (P Q : ℕ → Type 0) → ((q : ℕ) → q < 16 → P q → Q q) → ((q : ℕ) → q < 16 → Q q → P q) → (r : Option ℕ) → FirstRow P r → FirstRow Q r
 first_row P Q to from (Some r) first = (first.0, to r first.0 first.1, λ q lt x. first.2 q lt (from q (omega (arith, first.0)) x))
@@ -64,9 +69,6 @@ module _ (s s' : State) (path row names : List ℕ) (given : Ok row ≡ row_of p
 
   pub row_room : (r : ℕ) → r < 16 → row_at r + length row ≤ length s.words
   row_room r lt = omega (arith, five)
-
-  pub row_long : (r : ℕ) → r < 16 → length (paste s.words (row_at r) row (length row)) ≡ length s.words
-  row_long r lt = length-paste s.words (row_at r) row (length row) (row_room r lt) (omega arith)
 
   pub named_free : (r : ℕ) → FirstRow (RowIs names row) None → FreeRow names (Some r) → s' ≡ reworded s (paste s.words (row_at r) row (length row)) → Named s path (Ok r) s'
   named_free r none free after = (

@@ -1,4 +1,3 @@
 pub mod States
 pub mod Rows
 pub mod Writes
-pub mod Lines

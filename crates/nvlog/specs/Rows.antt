@@ -5,7 +5,8 @@ use Rattle.device.specs.Numbers.{Says}
 use Rattle.device.specs.Words.{Words}
 use Rattle.device.specs.declared.Fault.{Fault}
 use Rattle.layout.specs.Places.{row_at}
-use Rattle.layout.specs.Rows.{path_fits, row_words}
+use Rattle.device.specs.Paths.{path_fits}
+use Rattle.layout.specs.Rows.{row_words}
 use Rattle.nvlog.specs.States.{State, reworded}
 
 -- row r has a name

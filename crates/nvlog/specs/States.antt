@@ -15,7 +15,7 @@ pub record State : Type 0 where
 
 -- a circle of entries in the words W
 abbrev pub state_in : Circle → List ℕ → State
-state_in c W = record { entries = c.entries; words = W; head = c.head; taken = c.taken; writes = c.writes }
+state_in c W = record { entries = c.entries.n; words = W; head = c.head; taken = c.taken; writes = c.writes }
 
 abbrev pub state_of : WordLog → State
 state_of l = state_in l.circle (battery_of l.memory).current

@@ -1,5 +1,4 @@
 // One line of input as a command.
-
 #[derive(Clone, Copy)]
 pub enum Command<'a> {
     // Begin a log.
@@ -26,37 +25,29 @@ pub enum Step<'a> {
 }
 
 // The command that a line holds: fields separated by one space, and a text that is the rest of the line.
-pub fn parse<'a>(line: &'a [u8]) -> Option<Command<'a>> {
+pub fn parse(line: &[u8]) -> Option<Command<'_>> {
     if line == b"back".as_slice() {
         return Some(Command::Use(Step::Back));
     }
     let (verb, rest) = field(line)?;
-    if verb == b"log".as_slice() {
-        let entries = entries_of(rest)?;
-        return Some(Command::Log { entries });
+    match verb {
+        b"log" => Some(Command::Log {
+            entries: entries_of(rest)?,
+        }),
+        b"name" => Some(Command::Use(Step::Name { path: rest })),
+        b"write" => Some(Command::Use(write_step(rest)?)),
+        b"words" => Some(Command::Use(words_step(rest)?)),
+        _ => None,
     }
-    if verb == b"name".as_slice() {
-        return Some(Command::Use(Step::Name { path: rest }));
-    }
-    if verb == b"write".as_slice() {
-        return Some(Command::Use(write_step(rest)?));
-    }
-    if verb == b"words".as_slice() {
-        return Some(Command::Use(words_step(rest)?));
-    }
-    None
 }
 
 // A number of entries: at most 2 to the 32nd.
 fn entries_of(digits: &[u8]) -> Option<usize> {
     let entries = number(digits)?;
-    if entries > 1 << 32 {
-        return None;
-    }
-    Some(entries as usize)
+    (entries <= 1 << 32).then_some(entries as usize)
 }
 
-fn write_step<'a>(rest: &'a [u8]) -> Option<Step<'a>> {
+fn write_step(rest: &[u8]) -> Option<Step<'_>> {
     let (row, rest) = field(rest)?;
     let (offset, text) = field(rest)?;
     Some(Step::Write {
@@ -75,26 +66,15 @@ fn words_step<'a>(rest: &[u8]) -> Option<Step<'a>> {
 }
 
 // What stands before the first space, and what stands after it.
-fn field<'a>(line: &'a [u8]) -> Option<(&'a [u8], &'a [u8])> {
-    for (i, b) in line.iter().enumerate() {
-        if *b == b' ' {
-            return Some((&line[0..i], &line[i + 1..line.len()]));
-        }
-    }
-    None
+fn field(line: &[u8]) -> Option<(&[u8], &[u8])> {
+    let at = line.iter().position(|b| *b == b' ')?;
+    Some((&line[..at], &line[at + 1..]))
 }
 
 // A number of decimal digits that fits 64 bits.
 fn number(digits: &[u8]) -> Option<u64> {
-    if digits.is_empty() {
-        return None;
+    if !digits.iter().all(u8::is_ascii_digit) {
+        return None; // a sign, say
     }
-    let mut n: u64 = 0;
-    for b in digits {
-        if !b.is_ascii_digit() {
-            return None;
-        }
-        n = n.checked_mul(10)?.checked_add(u64::from(*b - b'0'))?;
-    }
-    Some(n)
+    std::str::from_utf8(digits).ok()?.parse().ok()
 }

@@ -2,15 +2,12 @@
 #![tactic(auto)]
 
 mod command;
-mod lines;
 mod reader;
 mod session;
-mod slices;
 mod word_log;
 mod writing;
 
-use lines::Lines;
-use session::answer_all;
+use session::Session;
 use std::io::Read;
 
 fn main(rt: HostRuntime) -> anyhow::Result<()> {
@@ -18,8 +15,16 @@ fn main(rt: HostRuntime) -> anyhow::Result<()> {
 }
 
 fn run(rt: &HostRuntime) -> anyhow::Result<()> {
-    let mut input = Vec::new(rt.alloc());
+    let heap = rt.alloc();
+    let mut input = Vec::new(heap);
     rt.stdin().read_to_end(&mut input)?;
-    let mut lines = Lines::new(input.as_slice());
-    answer_all(&mut rt.stdout(), rt.alloc(), &mut lines)
+    let lines: Vec<&[u8]> = input
+        .split_inclusive(|b| *b == b'\n')
+        .map(|line| line.strip_suffix(b"\n").unwrap_or(line))
+        .collect(heap)?;
+    let mut session = Session {
+        out: &mut rt.stdout(),
+        heap,
+    };
+    session.answer_all(lines.as_slice())
 }

@@ -2,9 +2,8 @@
 ghost use Rattle.std.specs.Prelude.{◌≡◌, ◌<◌, ◌≤◌, take, IfOk, Some};
 ghost use Rattle.layout.specs.Places.{header_for, tail_of};
 
-use crate::slices::part;
 use device::{Failure, Fault, Layer, Refusal};
-use layout::{ENTRY_WORDS, Entry, HEADER_WORDS, MOST_GROUP, TAIL, entry_start, header, read_entry};
+use layout::{ENTRY_WORDS, Entry, EntryCount, Mark, TAIL, read_entry};
 use std::alloc::Global;
 
 // A write as it was found: the pieces of its group joined.
@@ -16,117 +15,113 @@ pub struct Found {
     pub bytes: Vec<u8>,
 }
 
+// The words of a log, and the number of entries that its header says.
+#[derive(Clone, Copy)]
+struct Reader<'a> {
+    words: &'a [u64],
+    entries: EntryCount,
+}
+
 // The writes from the tail on, oldest first.
 pub fn read_writes(heap: Global, words: &[u64]) -> Result<Vec<Found>, Failure> {
-    let n = entries_in(words)?;
-    let mut position = tail_in(words, n)?;
+    let entries = entries_in(words)?;
+    let reader = Reader { words, entries };
+    let mut position = reader.tail()?;
     let mut writes = Vec::new(heap);
-    for _ in 0..n {
-        if mark_at(words, n, position) == 0 {
+    for _ in 0..entries.n {
+        if reader.mark_at(position) == 0 {
             break;
         }
-        let found = read_write(heap, words, n, position)?;
-        position = around(n, position, found.entries);
+        let found = reader.write_at(heap, position)?;
+        position = reader.around(position, found.entries);
         writes.push(found)?;
     }
     Ok(writes)
 }
 
-// The write whose first entry stands at a position.
-fn read_write(heap: Global, words: &[u64], n: usize, position: usize) -> Result<Found, Failure> {
-    let first = entry_at(words, n, position, 0)?;
-    if first.mark > MOST_GROUP as u64 {
-        return Err(Failure::Declined(bad_entry(position)));
+// How many entries the log has, as its header says.
+fn entries_in(words: &[u64]) -> Result<EntryCount, Fault>
+    ensures { IfOk result (λ c. header_for c.n ≡ Some (take 8 words.now)) }
+{
+    let bad = Layer::Log.declines(Refusal::BadHeader, 0);
+    let Some(first) = words.first_chunk::<8>() else {
+        return Err(bad);
+    };
+    match EntryCount::try_from(first[6] as usize / ENTRY_WORDS) {
+        Ok(entries) if entries.header() == *first => Ok(entries),
+        _ => Err(bad),
     }
-    let entries = first.mark as usize;
-    let mut bytes = Vec::new(heap);
-    for d in 0..entries {
-        let entry = entry_at(words, n, position, d)?;
-        if d > 0 && !goes_on(&first, d, bytes.len(), &entry) {
-            return Err(Failure::Declined(bad_entry(around(n, position, d))));
+}
+
+impl<'a> Reader<'a> {
+    // The position of the oldest entry.
+    fn tail(&self) -> Result<usize, Fault>
+        ensures { IfOk result (λ p. (p ≡ tail_of self.now.words.now) × (p < self.now.entries.n)) }
+    {
+        match self.words.get(TAIL) {
+            Some(tail) if *tail < self.entries.n as u64 => Ok(*tail as usize),
+            _ => Err(Layer::Log.declines(Refusal::BadTail, TAIL as u64)),
         }
-        bytes.extend_from_slice(&entry.bytes[0..entry.count])?;
     }
-    Ok(Found {
-        row: first.row,
-        offset: first.offset,
-        entries,
-        bytes,
-    })
+
+    // The mark of the entry at a position; past the words it counts as 0.
+    fn mark_at(&self, position: usize) -> u64 {
+        self.entries
+            .entry_start(position, 0)
+            .and_then(|start| self.words.get(start))
+            .copied()
+            .unwrap_or(0)
+    }
+
+    // The write whose first entry stands at a position.
+    fn write_at(&self, heap: Global, position: usize) -> Result<Found, Failure> {
+        let first = self.entry_at(position, 0)?;
+        let Mark::First(entries) = first.mark else {
+            return Err(self.bad_entry(position, 0).into());
+        };
+        let entries = usize::from(entries);
+        let mut bytes = Vec::new(heap);
+        bytes.extend_from_slice(first.bytes.as_slice())?;
+        // An entry is reached by its distance from the first, round the circle.
+        for d in 1..entries {
+            let entry = self.entry_at(position, d)?;
+            if !goes_on(&first, d, bytes.len(), &entry) {
+                return Err(self.bad_entry(position, d).into());
+            }
+            bytes.extend_from_slice(entry.bytes.as_slice())?;
+        }
+        Ok(Found {
+            row: first.row,
+            offset: first.offset,
+            entries,
+            bytes,
+        })
+    }
+
+    // The entry d places after a position.
+    fn entry_at(&self, position: usize, d: usize) -> Result<Entry, Fault> {
+        let bad = self.bad_entry(position, d);
+        let start = self.entries.entry_start(position, d).ok_or(bad)?;
+        let words = self.words.get(start..start + ENTRY_WORDS).ok_or(bad)?;
+        read_entry(words, bad.place)
+    }
+
+    fn bad_entry(&self, position: usize, d: usize) -> Fault {
+        Layer::Log.declines(Refusal::BadEntry, self.around(position, d) as u64)
+    }
+
+    // The position d places further round the circle.
+    fn around(&self, position: usize, d: usize) -> usize {
+        position.saturating_add(d) % self.entries.n
+    }
 }
 
 // Whether an entry is the one d places after the first of its group, with `length` bytes before it.
 fn goes_on(first: &Entry, d: usize, length: usize, entry: &Entry) -> bool {
-    entry.mark == (d as u64).saturating_add(16)
+    let Mark::Next(place) = entry.mark else {
+        return false;
+    };
+    usize::from(place) == d
         && entry.row == first.row
         && entry.offset.checked_sub(first.offset) == Some(length as u64)
-}
-
-// How many entries the log has, as its header says.
-fn entries_in(words: &[u64]) -> Result<usize, Fault>
-    ensures { IfOk result (λ n. header_for n ≡ Some (take 8 words.now)) }
-{
-    let first = part(words, 0, HEADER_WORDS);
-    if first.len() == HEADER_WORDS {
-        let n = first[6] as usize / ENTRY_WORDS;
-        if let Some(right) = header(n) {
-            if right.as_slice() == first {
-                return Ok(n);
-            }
-        }
-    }
-    Err(Fault {
-        refusal: Refusal::BadHeader,
-        layer: Layer::Log,
-        place: 0,
-    })
-}
-
-fn tail_in(words: &[u64], n: usize) -> Result<usize, Fault>
-    ensures { IfOk result (λ p. (p ≡ tail_of words.now) × (p < n)) }
-{
-    if TAIL < words.len() {
-        let tail = words[TAIL] as usize;
-        if tail < n {
-            return Ok(tail);
-        }
-    }
-    Err(Fault {
-        refusal: Refusal::BadTail,
-        layer: Layer::Log,
-        place: TAIL as u64,
-    })
-}
-
-fn mark_at(words: &[u64], n: usize, position: usize) -> u64 {
-    match entry_start(n, position, 0) {
-        Some(start) => part(words, start, 1).first().copied().unwrap_or(0),
-        None => 0,
-    }
-}
-
-fn entry_at(words: &[u64], n: usize, position: usize, d: usize) -> Result<Entry, Fault>
-    ensures { IfOk result (λ e. e.count ≤ 512) }
-{
-    let place = around(n, position, d);
-    match entry_start(n, position, d) {
-        Some(start) => read_entry(part(words, start, ENTRY_WORDS), place as u64),
-        None => Err(bad_entry(place)),
-    }
-}
-
-fn bad_entry(position: usize) -> Fault {
-    Fault {
-        refusal: Refusal::BadEntry,
-        layer: Layer::Log,
-        place: position as u64,
-    }
-}
-
-// The position d places further round the circle.
-fn around(n: usize, position: usize, d: usize) -> usize {
-    if n == 0 {
-        return 0;
-    }
-    position.saturating_add(d) % n
 }

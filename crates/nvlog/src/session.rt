@@ -1,214 +1,202 @@
 // Answers to commands.
-ghost use Rattle.std.specs.Prelude.{◌≡◌, ◌≤◌, Ok};
-ghost use Rattle.layout.specs.Places.{width_for};
-ghost use Rattle.nvlog.specs.Lines.{left};
+ghost use Rattle.std.specs.Prelude.{◌<◌, ◌≤◌, length, IfOk, OnSome};
+ghost use Rattle.std.specs.Slice.Iter.{iter_rest};
 
 use crate::command::{Command, Step, parse};
-use crate::lines::Lines;
 use crate::reader::{Found, read_writes};
 use crate::word_log::{Circle, WordLog};
-use anyhow::anyhow;
 use device::{Failure, Fault, Module};
-use layout::log_width;
+use layout::EntryCount;
 use memory::Battery;
 use std::alloc::Global;
-use std::io;
 use std::io::Write;
+use std::slice::Iter;
+use std::{fmt, io};
 
 // What was laid out in a log.
-#[derive(Clone, Copy)]
+#[derive(Clone, Copy, Default)]
 struct Total {
     writes: usize,
     taken: usize,
     free: usize,
 }
 
-// Answers each line of the input, and then says what was laid out in the last log.
-pub fn answer_all<W: Write>(
-    out: &mut W,
-    heap: Global,
-    lines: &mut Lines<'_>,
-) -> anyhow::Result<()> {
-    let mut total = Total {
-        writes: 0,
-        taken: 0,
-        free: 0,
-    };
-    while let Some(line) = lines.peek() {
-        lines.pass();
-        match parse(line) {
-            None => unreadable(out, line)?,
-            Some(Command::Use(_)) => end_line(out, b"no log yet")?,
-            Some(Command::Log { entries }) => match log_width(entries) {
-                Ok(width) => total = keep_log(out, heap, lines, entries, width)?,
-                Err(e) => declined(out, e)?,
-            },
+impl fmt::Display for Total {
+    fn fmt<W: fmt::Write>(&self, f: &mut fmt::Formatter<W>) -> fmt::Result {
+        write!(
+            f,
+            "{} writes, {} entries, {} free",
+            self.writes, self.taken, self.free
+        )
+    }
+}
+
+// Where answers go, and where memory comes from.
+#[derive(Drop)]
+pub struct Session<'a, W: Write> {
+    pub out: &'a mut W,
+    pub heap: Global,
+}
+
+impl<'a, W: Write> Session<'a, W> {
+    // Answers each line of the input, and then says what was laid out in the last log.
+    pub fn answer_all(&mut self, lines: &[&[u8]]) -> anyhow::Result<()> {
+        let mut lines = lines.iter();
+        let mut total = Total::default();
+        let mut next = self.until_log(&mut lines, |session, _| Ok(session.say(b"no log yet")?))?;
+        while let Some(entries) = next {
+            let mut words = Vec::from_elem(self.heap, 0, entries.width())?;
+            let mut memory = Battery::new(words.as_mut_slice());
+            let Ok(circle) = Circle::format(&mut memory, entries.n) else {
+                unreachable();
+            };
+            let mut log = WordLog { memory, circle };
+            writeln!(self.out, "log {}: {} words", entries.n, entries.width())?;
+            next = self.until_log(&mut lines, |session, step| session.obey(&mut log, step))?;
+            total = Total {
+                writes: log.circle.writes,
+                taken: log.circle.taken,
+                free: log.circle.free(),
+            };
         }
+        writeln!(self.out, "total: {total}")?;
+        Ok(())
     }
-    let writes = total.writes;
-    let taken = total.taken;
-    let free = total.free;
-    writeln!(out, "total: {writes} writes, {taken} entries, {free} free")?;
-    Ok(())
-}
 
-// Begins an empty log in words of its own, and answers the lines up to where the next log begins.
-fn keep_log<W: Write>(
-    out: &mut W,
-    heap: Global,
-    lines: &mut Lines<'_>,
-    entries: usize,
-    width: usize,
-) -> anyhow::Result<Total>
-    requires { width_for entries ≡ Ok width }
-    ensures { left lines.new ≤ left lines.old }
-{
-    let mut words = Vec::from_elem(heap, 0, width)?;
-    let mut memory = Battery::new(words.as_mut_slice());
-    let Ok(circle) = Circle::format(&mut memory, entries) else {
-        unreachable();
-    };
-    let mut log = WordLog { memory, circle };
-    writeln!(out, "log {entries}: {width} words")?;
-    serve(out, heap, &mut log, lines)?;
-    Ok(Total {
-        writes: log.circle.writes,
-        taken: log.circle.taken,
-        free: log.circle.free(),
-    })
-}
-
-// Answers the lines up to one that begins another log. A log that is declined leaves the one that is there.
-fn serve<W: Write>(
-    out: &mut W,
-    heap: Global,
-    log: &mut WordLog<'_>,
-    lines: &mut Lines<'_>,
-) -> anyhow::Result<()>
-    ensures { left lines.new ≤ left lines.old }
-{
-    while let Some(line) = lines.peek() {
-        match parse(line) {
-            None => unreadable(out, line)?,
-            Some(Command::Use(step)) => obey(out, heap, log, step)?,
-            Some(Command::Log { entries }) => match log_width(entries) {
-                Ok(_) => return Ok(()),
-                Err(e) => declined(out, e)?,
-            },
-        }
-        lines.pass();
-    }
-    Ok(())
-}
-
-fn obey<W: Write>(
-    out: &mut W,
-    heap: Global,
-    log: &mut WordLog<'_>,
-    step: Step<'_>,
-) -> anyhow::Result<()> {
-    match step {
-        Step::Name { path } => name(out, log, path),
-        Step::Write { row, offset, text } => write(out, heap, log, row, offset, text),
-        Step::Words { from, count } => show_words(out, heap, log, from, count),
-        Step::Back => show_writes(out, heap, log),
-    }
-}
-
-fn name<W: Write>(out: &mut W, log: &mut WordLog<'_>, path: &[u8]) -> anyhow::Result<()> {
-    match log.name(path) {
-        Ok(row) => {
-            write!(out, "row {row}: ")?;
-            Ok(end_line(out, path)?)
-        }
-        Err(e) => Ok(declined(out, e)?),
-    }
-}
-
-fn write<W: Write>(
-    out: &mut W,
-    heap: Global,
-    log: &mut WordLog<'_>,
-    row: u64,
-    offset: u64,
-    text: &[u8],
-) -> anyhow::Result<()> {
-    match log.write(heap, row, offset, text) {
-        Ok(Some(laid)) => {
-            let position = laid.position;
-            let entries = laid.entries;
-            writeln!(out, "write: position {position}, entries {entries}")?;
-            Ok(())
-        }
-        Ok(None) => Ok(end_line(out, b"write: nothing")?),
-        Err(e) => failed(out, e),
-    }
-}
-
-fn show_words<W: Write>(
-    out: &mut W,
-    heap: Global,
-    log: &mut WordLog<'_>,
-    from: usize,
-    count: usize,
-) -> anyhow::Result<()> {
-    match log.copy(heap, from, count) {
-        Ok(words) => {
-            let mut i = from;
-            for w in words.iter() {
-                writeln!(out, "word {i}: {w}")?;
-                i = i.saturating_add(1);
+    // Answers the lines up to one that begins a log, and says how many entries that log has. `act` does what a line asks for; a line that
+    // cannot be read, or a log that is declined, is answered here and leaves the log that is there.
+    fn until_log<F: FnMut(&mut Self, Step<'_>) -> anyhow::Result<()>>(
+        &mut self,
+        lines: &mut Iter<'_, &[u8]>,
+        mut act: F,
+    ) -> anyhow::Result<Option<EntryCount>>
+        requires { F.IsAlwaysCallable act }
+        ensures rest { length (iter_rest lines.new) ≤ length (iter_rest lines.old) }
+        ensures taken { IfOk result (λ next. OnSome next (length (iter_rest lines.new) < length (iter_rest lines.old))) }
+    {
+        while let Some(line) = lines.next() {
+            match parse(line) {
+                None => self.unreadable(line)?,
+                Some(Command::Use(step)) => act(self, step)?,
+                Some(Command::Log { entries }) => match EntryCount::try_from(entries) {
+                    Ok(entries) => return Ok(Some(entries)),
+                    Err(e) => self.decline(e)?,
+                },
             }
-            Ok(())
         }
-        Err(e) => failed(out, e),
+        Ok(None)
     }
-}
 
-fn show_writes<W: Write>(out: &mut W, heap: Global, log: &mut WordLog<'_>) -> anyhow::Result<()> {
-    match found_writes(heap, log) {
-        Ok(writes) => {
-            for found in writes.iter() {
-                let row = found.row;
-                let offset = found.offset;
-                let count = found.bytes.len();
-                write!(out, "row {row}, offset {offset}, {count} bytes: ")?;
-                end_line(out, found.bytes.as_slice())?;
+    // One match, and no closure in the place of each step: which steps there are is for the reader of lines to say, and plainer so.
+    fn obey(&mut self, log: &mut WordLog<'_>, step: Step<'_>) -> anyhow::Result<()> {
+        match step {
+            Step::Name { path } => self.name(log, path),
+            Step::Write { row, offset, text } => self.write(log, row, offset, text),
+            Step::Words { from, count } => self.show_words(log, from, count),
+            Step::Back => self.show_writes(log),
+        }
+    }
+
+    fn name(&mut self, log: &mut WordLog<'_>, path: &[u8]) -> anyhow::Result<()> {
+        match log.name(path) {
+            Ok(row) => {
+                write!(self.out, "row {row}: ")?;
+                Ok(self.say(path)?)
             }
-            Ok(())
+            Err(e) => Ok(self.decline(e)?),
         }
-        Err(e) => failed(out, e),
     }
-}
 
-// The writes that stand in the words of a log.
-fn found_writes(heap: Global, log: &mut WordLog<'_>) -> Result<Vec<Found>, Failure> {
-    let width = log.memory.width();
-    let words = log.copy(heap, 0, width)?;
-    read_writes(heap, words.as_slice())
-}
-
-fn unreadable<W: Write>(out: &mut W, line: &[u8]) -> io::Result<()> {
-    out.write_all(b"unreadable: ")?;
-    end_line(out, line)
-}
-
-// A refusal is an answer; want of memory ends the program.
-fn failed<W: Write>(out: &mut W, e: Failure) -> anyhow::Result<()> {
-    match e {
-        Failure::Declined(fault) => Ok(declined(out, fault)?),
-        Failure::NoMemory => Err(anyhow!("no memory")),
+    fn write(
+        &mut self,
+        log: &mut WordLog<'_>,
+        row: u64,
+        offset: u64,
+        text: &[u8],
+    ) -> anyhow::Result<()> {
+        match log.write(self.heap, row, offset, text) {
+            Ok(Some(laid)) => {
+                writeln!(
+                    self.out,
+                    "write: position {}, entries {}",
+                    laid.position, laid.entries
+                )?;
+                Ok(())
+            }
+            Ok(None) => Ok(self.say(b"write: nothing")?),
+            Err(e) => self.fail(e),
+        }
     }
-}
 
-fn declined<W: Write>(out: &mut W, e: Fault) -> io::Result<()> {
-    let number = e.refusal.number();
-    let layer = e.layer.layer_number();
-    let place = e.place;
-    writeln!(out, "declined {number} {layer} {place}")
-}
+    fn show_words(
+        &mut self,
+        log: &mut WordLog<'_>,
+        from: usize,
+        count: usize,
+    ) -> anyhow::Result<()> {
+        match log.copy(self.heap, from, count) {
+            Ok(words) => {
+                for (i, word) in words.iter().enumerate() {
+                    writeln!(self.out, "word {}: {word}", from.saturating_add(i))?;
+                }
+                Ok(())
+            }
+            Err(e) => self.fail(e),
+        }
+    }
 
-fn end_line<W: Write>(out: &mut W, text: &[u8]) -> io::Result<()> {
-    out.write_all(text)?;
-    out.write_all(b"\n")
+    fn show_writes(&mut self, log: &mut WordLog<'_>) -> anyhow::Result<()> {
+        match self.found_writes(log) {
+            Ok(writes) => {
+                for found in writes.iter() {
+                    write!(
+                        self.out,
+                        "row {}, offset {}, {} bytes: ",
+                        found.row,
+                        found.offset,
+                        found.bytes.len()
+                    )?;
+                    self.say(found.bytes.as_slice())?;
+                }
+                Ok(())
+            }
+            Err(e) => self.fail(e),
+        }
+    }
+
+    // The writes that stand in the words of a log.
+    fn found_writes(&self, log: &mut WordLog<'_>) -> Result<Vec<Found>, Failure> {
+        let width = log.memory.width();
+        let words = log.copy(self.heap, 0, width)?;
+        read_writes(self.heap, words.as_slice())
+    }
+
+    fn unreadable(&mut self, line: &[u8]) -> io::Result<()> {
+        self.out.write_all(b"unreadable: ")?;
+        self.say(line)
+    }
+
+    // A refusal is an answer; want of memory ends the program.
+    fn fail(&mut self, e: Failure) -> anyhow::Result<()> {
+        match e {
+            Failure::Declined(fault) => Ok(self.decline(fault)?),
+            Failure::NoMemory => Err(e.into()),
+        }
+    }
+
+    // Three numbers, which an answer of the program is made of: a fault is shown with words besides.
+    fn decline(&mut self, e: Fault) -> io::Result<()> {
+        writeln!(
+            self.out,
+            "declined {} {} {}",
+            u8::from(e.refusal),
+            u8::from(e.layer),
+            e.place
+        )
+    }
+
+    fn say(&mut self, text: &[u8]) -> io::Result<()> {
+        self.out.write_all(text)?;
+        self.out.write_all(b"\n")
+    }
 }

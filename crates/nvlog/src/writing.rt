@@ -1,19 +1,19 @@
 // What is done to a log kept in words: it is made, rows get names, writes are laid out.
-ghost use Rattle.std.specs.Prelude.{◌≡◌, ◌+◌, ◌<◌, ◌≤◌, true, false, length};
+ghost use Rattle.std.specs.Prelude.{◌≡◌, ◌+◌, ◌*◌, ◌/◌, ◌<◌, ◌≤◌, true, false, length, take, drop};
 ghost use Rattle.device.specs.Words.{width};
 ghost use Rattle.memory.specs.Meanings.{battery_of};
 ghost use Rattle.layout.specs.Entries.{group_of};
 ghost use Rattle.layout.specs.Groups.{group_fits};
+ghost use Rattle.layout.specs.Places.{row_at};
 ghost use Rattle.nvlog.specs.Rows.{taken_row, RowIs, FirstRow, Named, NamesRead};
-ghost use Rattle.nvlog.specs.States.{state_of, Fit};
+ghost use Rattle.nvlog.specs.States.{state_of};
 ghost use Rattle.nvlog.specs.Writes.{GroupPut, LaidOut, Written, Made, Copied};
 
-use crate::slices::part;
 use crate::word_log::{Circle, Laid, WordLog};
 use device::{Failure, Fault, Layer, Module, Refusal};
 use layout::{
-    ENTRY_WORDS, FIRST_ENTRY, HEADER_WORDS, MOST_FILE, Piece, ROW_WORDS, ROWS, TAIL, group_words,
-    header, log_width, row_words, split,
+    ENTRY_WORDS, EntryCount, HEADER_WORDS, MOST_FILE, Piece, ROW_WORDS, ROWS, TAIL, group_words,
+    row_start, row_words, split,
 };
 use memory::Battery;
 use std::alloc::Global;
@@ -24,21 +24,15 @@ impl Circle {
     pub fn format(memory: &mut Battery<'_>, n: usize) -> Result<Circle, Fault>
         ensures { Made (battery_of memory.old) n (battery_of memory.new) result }
     {
+        let entries = EntryCount::try_from(n)?;
         let width = memory.width();
-        if width != log_width(n)? {
-            return Err(Fault {
-                refusal: Refusal::BadFormat,
-                layer: Layer::Log,
-                place: width as u64,
-            });
+        if width != entries.width() {
+            return Err(Layer::Log.declines(Refusal::BadFormat, width as u64));
         }
-        let Some(first) = header(n) else {
-            unreachable();
-        };
         clear_all(memory)?;
-        put_run(memory, 0, &first)?;
+        put_run(memory, 0, &entries.header())?;
         Ok(Circle {
-            entries: n,
+            entries,
             head: 0,
             taken: 0,
             writes: 0,
@@ -47,17 +41,16 @@ impl Circle {
 
     // How many more entries the log takes: one always stays free.
     pub fn free(&self) -> usize
-        ensures { result + self.now.taken + 1 ≡ self.now.entries }
+        ensures { result + self.now.taken + 1 ≡ self.now.entries.n }
     {
-        self.entries - 1 - self.taken
+        self.entries.n - 1 - self.taken
     }
 }
 
 impl<'a> WordLog<'a> {
     // The row of a path: its own, or the lowest free one, which it takes.
     pub fn name(&mut self, path: &[u8]) -> Result<usize, Fault>
-        ensures named { Fit (state_of self.old) → Named (state_of self.old) path.now result (state_of self.new) }
-        ensures fit { Fit (state_of self.old) → Fit (state_of self.new) }
+        ensures { Named (state_of self.old) path.now result (state_of self.new) }
     {
         let row = row_words(path)?;
         let names = read_names(&mut self.memory)?;
@@ -65,11 +58,7 @@ impl<'a> WordLog<'a> {
             return Ok(own);
         }
         let Some(free) = free_row(&names) else {
-            return Err(Fault {
-                refusal: Refusal::ShelfFull,
-                layer: Layer::Shelf,
-                place: ROWS as u64,
-            });
+            return Err(Layer::Shelf.declines(Refusal::ShelfFull, ROWS as u64));
         };
         put_run(&mut self.memory, HEADER_WORDS + ROW_WORDS * free, &row)?;
         Ok(free)
@@ -83,16 +72,11 @@ impl<'a> WordLog<'a> {
         offset: u64,
         bytes: &[u8],
     ) -> Result<Option<Laid>, Failure>
-        ensures written { Fit (state_of self.old) → Written (state_of self.old) row offset bytes.now result (state_of self.new) }
-        ensures fit { Fit (state_of self.old) → Fit (state_of self.new) }
+        ensures { Written (state_of self.old) row offset bytes.now result (state_of self.new) }
     {
         let names = read_names(&mut self.memory)?;
         if !is_named(&names, row) {
-            return Err(Failure::Declined(Fault {
-                refusal: Refusal::BadRow,
-                layer: Layer::Log,
-                place: row,
-            }));
+            return Err(Layer::Log.declines(Refusal::BadRow, row).into());
         }
         let pieces = split(heap, MOST_FILE, offset, bytes)?;
         if pieces.is_empty() {
@@ -100,11 +84,7 @@ impl<'a> WordLog<'a> {
         }
         let free = self.circle.free();
         if pieces.len() > free {
-            return Err(Failure::Declined(Fault {
-                refusal: Refusal::LogFull,
-                layer: Layer::Log,
-                place: free as u64,
-            }));
+            return Err(Layer::Log.declines(Refusal::LogFull, free as u64).into());
         }
         let laid = self.lay_out(heap, row, pieces.as_slice())?;
         Ok(Some(laid))
@@ -113,8 +93,8 @@ impl<'a> WordLog<'a> {
     // Lays a group out from the head on, and moves the head behind it.
     fn lay_out(&mut self, heap: Global, row: u64, pieces: &[Piece<'_>]) -> Result<Laid, Failure>
         requires fit { group_fits (group_of row pieces.now) ≡ true }
-        requires room { length pieces.now + self.old.circle.taken < self.old.circle.entries }
-        ensures { Fit (state_of self.old) → LaidOut (state_of self.old) (group_of row pieces.now) result (state_of self.new) }
+        requires room { length pieces.now + self.old.circle.taken < self.old.circle.entries.n }
+        ensures { LaidOut (state_of self.old) (group_of row pieces.now) result (state_of self.new) }
     {
         let position = self.circle.head;
         let entries = pieces.len();
@@ -125,10 +105,9 @@ impl<'a> WordLog<'a> {
             &mut self.memory,
             self.circle.entries,
             position,
-            entries,
             group.as_slice(),
         )?;
-        self.circle.head = (position + entries) % self.circle.entries;
+        self.circle.head = (position + entries) % self.circle.entries.n;
         self.circle.taken += entries;
         self.circle.writes += 1;
         Ok(Laid { position, entries })
@@ -155,22 +134,20 @@ fn read_names(memory: &mut Battery<'_>) -> Result<[u64; TAIL], Fault>
     Ok(names)
 }
 
-// Puts the entries of a group from a position on, round the circle of n.
+// Puts the entries of a group from a position on, round the circle.
 fn put_group<M: Module>(
     memory: &mut M,
-    n: usize,
+    entries: EntryCount,
     position: usize,
-    entries: usize,
     group: &[u64],
 ) -> Result<(), Fault>
-    requires few { entries ≤ 8 }
-    requires least { (9 ≤ n) × (n ≤ 1024) }
-    requires on { position < n }
-    ensures { GroupPut (M.Module.meaning memory.old) n position entries group.now (M.Module.meaning memory.new) result }
+    requires few { length group.now ≤ 68 * 8 }
+    requires on { position < entries.n }
+    ensures { GroupPut (M.Module.meaning memory.old) entries.n position (length group.now / 68) group.now (M.Module.meaning memory.new) result }
 {
-    for d in 0..entries {
-        let start = FIRST_ENTRY + ENTRY_WORDS * ((position + d) % n);
-        put_run(memory, start, part(group, ENTRY_WORDS * d, ENTRY_WORDS))?;
+    for (d, entry) in group.chunks(ENTRY_WORDS).enumerate() {
+        let start = entries.entry_start(position, d).unwrap();
+        put_run(memory, start, entry)?;
     }
     Ok(())
 }
@@ -179,33 +156,33 @@ fn put_group<M: Module>(
 fn find_row(words: &[u64], row: &[u64]) -> Option<usize>
     ensures { FirstRow (RowIs words.now row.now) result }
 {
-    for r in 0..ROWS {
-        if part(words, HEADER_WORDS + ROW_WORDS * r, ROW_WORDS) == row {
-            return Some(r);
-        }
-    }
-    None
+    (0..ROWS).find(|r| row_in(words, *r) == row)
 }
 
 // The lowest row with no name.
 fn free_row(words: &[u64]) -> Option<usize>
     ensures { FirstRow (λ q. taken_row words.now q ≡ false) result }
 {
-    for r in 0..ROWS {
-        if !is_named(words, r as u64) {
-            return Some(r);
-        }
-    }
-    None
+    (0..ROWS).find(|r| !is_named(words, *r as u64))
+}
+
+// The words of a row, as far as there are words.
+fn row_in(words: &[u64], r: usize) -> &[u64]
+    ensures { result.now ≡ take 5 (drop (row_at r) words.now) }
+{
+    let start = r
+        .saturating_mul(ROW_WORDS)
+        .saturating_add(HEADER_WORDS)
+        .min(words.len());
+    let end = words.len().min(start + ROW_WORDS);
+    &words[start..end]
 }
 
 // Whether a row has a name.
 fn is_named(words: &[u64], row: u64) -> bool
     ensures { result ≡ taken_row words.now row }
 {
-    if row >= 16 {
-        return false;
-    }
-    let start = HEADER_WORDS + ROW_WORDS * row as usize;
-    start < words.len() && words[start] != 0
+    row_start(row as usize)
+        .and_then(|start| words.get(start))
+        .is_some_and(|length| *length != 0)
 }

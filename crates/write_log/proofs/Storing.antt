@@ -1,27 +1,20 @@
 -- A run of words on its way into a module: stores one after the other, and then a settle.
-use Rattle.std.proofs.Common.{◌≡◌, ℕ, ◌+◌, ◌-◌, ◌<◌, ◌≤◌, true, false, ◌⊎◌, List, ◌++◌, length, drop, set, replicate, IsErrAnd, Ok, Err, Result, sym, refl, ap, ◌∙◌, subst, inl, inr, ⊎_elim, append-nil, zero-add, arith}
+use Rattle.std.proofs.Common.{◌≡◌, ℕ, ◌+◌, ◌<◌, ◌≤◌, true, false, ◌⊎◌, List, ◌++◌, length, drop, set, replicate, Ok, Err, Result, sym, refl, ap, ◌∙◌, subst, inr, ⊎_elim, append-nil, zero-add, arith}
 use lib.Seq.{paste}
 use Rattle.std.proofs.lemmas.List.Edits.{length-paste, paste_more, paste_all}
 use Rattle.std.proofs.lemmas.List.{length-set, length-drop, length-replicate, get_or-drop, get_or-replicate, get_or-set_same, get_or-set_other, drop_all, ext_get_or}
-use Rattle.std.proofs.lemmas.Bool.{cases_eq, cases_lt}
+use Rattle.std.proofs.lemmas.Bool.{cases_eq}
 use Rattle.device.proofs.Failing.{failed_words}
 use Rattle.device.proofs.Pasted.{paste_before, paste_inside, paste_outside, paste_after}
 use Rattle.device.proofs.Resting.{rests}
 use Rattle.device.specs.ModuleCalls.{Stored, Settled, Put}
 use Rattle.device.specs.Numbers.{Says}
-use Rattle.device.specs.Words.{Words, Sound, word, resting}
+use Rattle.device.specs.Words.{Words, Sound, word}
 use Rattle.device.specs.declared.Fault.{Fault}
 use Rattle.write_log.specs.Runs.{Dark, OneOf, Cut, Moves}
 
--- words that are W's or X's, where those of X are W's or Y's
-further : (W X Y xs : List ℕ) (k : ℕ) → OneOf W X xs k → OneOf W Y X k → OneOf W Y xs k
-further W X Y xs k one on = ⊎_elim inl (λ e. ⊎_elim (λ a. inl (e ∙ a)) (λ b. inr (e ∙ b)) on) one
-
-same_words : (W Y : List ℕ) (xs ys : List ℕ) (k : ℕ) → xs ≡ ys → OneOf W Y ys k → OneOf W Y xs k
-same_words W Y xs ys k e one = subst (λ l. OneOf W Y l k) (sym e) one
-
 -- the refusal of a call in which power fails
-pub dark : (m : Words) (e : Fault) (i : ℕ) → m.lit ≡ false → Says e 22 2 i → Dark m e
+dark : (m : Words) (e : Fault) (i : ℕ) → m.lit ≡ false → Says e 22 2 i → Dark m e
 dark m e i out says = record { dark = out; number = ap (λ t. t.number) says; layer = ap (λ t. t.layer) says }
 
 -- what is found is W's or Y's where the current and the sure words are
@@ -29,11 +22,8 @@ cut : (W Y : List ℕ) (m : Words) (e : Fault) → Dark m e → Sound m → leng
 cut W Y m e failed sound long current sure = record {
   failed = failed;
   long = sound.founds ∙ long;
-  between = λ k. ⊎_elim (λ f. further_found k m.current f (current k)) (λ f. further_found k m.sure f (sure k)) (sound.chosen k);
+  between = λ k. grind (arith, current k, sure k, sound.chosen k);
 }
-  where
-    further_found : (k : ℕ) (xs : List ℕ) → word m.found k ≡ word xs k → OneOf W Y xs k → OneOf W Y m.found k
-    further_found k xs f = ⊎_elim (λ a. inl (f ∙ a)) (λ b. inr (f ∙ b))
 
 -- i words of a run are stored from `start` on: the current words are X, the sure ones W's or X's, and outside of the run so far W's
 pub record Storing (W : List ℕ) (start i : ℕ) (X : List ℕ) (m : Words) : Type 0 where
@@ -43,56 +33,30 @@ pub record Storing (W : List ℕ) (start i : ℕ) (X : List ℕ) (m : Words) : T
   pub either : (k : ℕ) → OneOf W X m.sure k
   pub outside : (k : ℕ) → (k < start) ⊎ (start + i ≤ k) → word m.sure k ≡ word W k
 
-pub storing_none : (W : List ℕ) (start : ℕ) (m : Words) → m ≡ resting W → Storing W start 0 W m
-storing_none W start m rest = record {
-  lit = ap (λ x. x.lit) rest;
-  current = ap (λ x. x.current) rest;
-  wide = ap (λ x. length x.sure) rest;
-  either = λ k. inl (ap (λ x. word x.sure k) rest);
-  outside = λ k _. ap (λ x. word x.sure k) rest;
-}
-
 -- one word more
 module _ (W : List ℕ) (start i v : ℕ) (X : List ℕ) (m m' : Words) (s : Storing W start i X m) (lt : start + i < length W) (long : length X ≡ length W) (fresh : word X (start + i) ≡ word W (start + i)) where
   put_either : Put m (start + i) v m' → (k : ℕ) → OneOf W (set X (start + i) v) m'.sure k
-  put_either put k =
-      let elsewhere : (k ≡ start + i → ⊥) → OneOf W (set X (start + i) v) m.sure k = λ other. ⊎_elim inl (λ e. inr (e ∙ sym (get_or-set_other X (start + i) k v 0 other))) (s.either k) in
-      ⊎_elim
-      (λ kept. same_words W (set X (start + i) v) m'.sure m.sure k kept (⊎_elim (λ here. inl (s.outside k (inr (omega arith)))) elsewhere (cases_eq k (start + i))))
-      (λ sure. same_words W (set X (start + i) v) m'.sure (set m.sure (start + i) v) k sure
-      (⊎_elim
-      (λ here. inr (ap (word (set m.sure (start + i) v)) here ∙ get_or-set_same m.sure (start + i) v 0 (omega (arith, s.wide)) ∙ sym (get_or-set_same X (start + i) v 0 (omega arith)) ∙ ap (word (set X (start + i) v)) (sym here)))
-      (λ other. ⊎_elim (λ a. inl (get_or-set_other m.sure (start + i) k v 0 other ∙ a)) (λ b. inr (get_or-set_other m.sure (start + i) k v 0 other ∙ b)) (elsewhere other))
-      (cases_eq k (start + i))))
-      put.sure
+  put_either put k = grind (arith, s.either k, s.outside k, get_or-set_other, get_or-set_same, put.sure, cases_eq k (start + i))
 
   pub store_more : (u : Unit) → Stored m (start + i) v m' (Ok u) → Storing W start (i + 1) (set X (start + i) v) m'
   store_more u done = record {
     lit = done.lit_after;
     current = done.effect.current ∙ ap (λ l. set l (start + i) v) s.current;
-    wide = ⊎_elim (λ e. ap length e ∙ s.wide) (λ e. ap length e ∙ length-set m.sure (start + i) v ∙ s.wide) done.effect.sure;
+    wide = grind (arith, length-set);
     either = put_either done.effect;
-    outside = λ k apart.
-        let old : word m.sure k ≡ word W k = s.outside k (⊎_elim (λ b. inl b) (λ b. inr (omega arith)) apart) in
-        let other : k ≡ start + i → ⊥ = λ e. ⊎_elim (λ b. omega arith) (λ b. omega arith) apart in
-        ⊎_elim (λ e. ap (λ l. word l k) e ∙ old) (λ e. ap (λ l. word l k) e ∙ get_or-set_other m.sure (start + i) k v 0 other ∙ old) done.effect.sure;
+    outside = λ k apart. grind (arith, s.outside k, get_or-set_other);
   }
 
   -- a store that was not done, on the way to Y
   pub store_cut : (Y : List ℕ) → ((k : ℕ) → OneOf W Y X k) → ((k : ℕ) → OneOf W Y (set X (start + i) v) k) → Sound m' → (e : Fault) → Stored m (start + i) v m' (Err e) → Cut W Y m' e
   store_cut Y here onward sound e =
-      let X' = set X (start + i) v in
       let settled : word m.current (start + i) ≡ word m.sure (start + i) = ap (λ l. word l (start + i)) s.current ∙ fresh ∙ sym (s.outside (start + i) (inr (omega arith))) in
       ⊎_elim
       (λ f. ⊎_elim
-      (λ kept. cut W Y m' e (dark m' e (start + i) f.dark f.says) sound (ap length (kept.current ∙ s.current) ∙ long)
-      (λ k. same_words W Y m'.current X k (kept.current ∙ s.current) (here k))
-      (λ k. same_words W Y m'.sure m.sure k kept.sure (further W X Y m.sure k (s.either k) (here k))))
-      (λ done. let put = done.2 in
-      let now : m'.current ≡ X' = put.current ∙ ap (λ l. set l (start + i) v) s.current in
-      cut W Y m' e (dark m' e (start + i) f.dark f.says) sound (ap length now ∙ length-set X (start + i) v ∙ long)
-      (λ k. same_words W Y m'.current X' k now (onward k))
-      (λ k. further W X' Y m'.sure k (put_either put k) (onward k)))
+      (λ kept. let now = kept.current ∙ s.current in
+      cut W Y m' e (dark m' e (start + i) f.dark f.says) sound (ap length now ∙ long) (λ k. grind (arith, here k)) (λ k. grind (arith, here k, s.either k)))
+      (λ done. let now = done.2.current ∙ ap (λ l. set l (start + i) v) s.current in
+      cut W Y m' e (dark m' e (start + i) f.dark f.says) sound (ap length now ∙ length-set X (start + i) v ∙ long) (λ k. grind (arith, onward k)) (λ k. grind (arith, onward k, put_either done.2 k)))
       (failed_words f))
       (⊎_elim (λ d. absurd (omega (arith, d.reason, ap length s.current))) (λ d. absurd (d.reason.1 settled)))
 
@@ -100,16 +64,12 @@ module _ (W : List ℕ) (start i v : ℕ) (X : List ℕ) (m m' : Words) (s : Sto
 module _ (W : List ℕ) (start n : ℕ) (X : List ℕ) (m m' : Words) (s : Storing W start n X m) (room : start + n ≤ length W) (long : length X ≡ length W) (same : (k : ℕ) → (k < start) ⊎ (start + n ≤ k) → word X k ≡ word W k) (sound : Sound m') where
   settled_sure : m'.sure ≡ paste m.sure start (drop start m.current) n → m'.sure ≡ X
   settled_sure firm =
-      let wide : length m.current ≡ length W = ap length s.current ∙ long in
-      let fits : start + n ≤ length m.sure = omega (arith, s.wide) in
-      let enough : n ≤ length (drop start m.current) = omega (arith, length-drop start m.current) in
       let run = drop start m.current in
-      let apart : (k : ℕ) → (k < start) ⊎ (start + n ≤ k) → word (paste m.sure start run n) k ≡ word X k = λ k o. paste_outside m.sure start run n fits enough k o ∙ s.outside k o ∙ sym (same k o) in
-      let inside : (k : ℕ) → start ≤ k → k < start + n → word (paste m.sure start run n) k ≡ word X k = λ k a b.
-      let back : start + (k - start) ≡ k = omega arith in
-      paste_inside m.sure start run n fits enough k a b ∙ get_or-drop start m.current (k - start) 0 ∙ ap (λ j. word m.current j) back ∙ ap (λ l. word l k) s.current in
+      let wide : length m.current ≡ length W = ap length s.current ∙ long in
+      let enough : n ≤ length run = omega (arith, length-drop start m.current) in
+      let fits : start + n ≤ length m.sure = omega (arith, s.wide) in
       firm ∙ ext_get_or 0 (paste m.sure start run n) X (length-paste m.sure start run n fits enough ∙ s.wide ∙ sym long)
-      (λ k _. ⊎_elim (λ b. apart k (inl b)) (λ a. ⊎_elim (λ b. inside k a b) (λ b. apart k (inr b)) (cases_lt k (start + n))) (cases_lt k start))
+      (λ k _. grind (arith, s.outside k, same k, s.current, paste_before, paste_inside, paste_after, get_or-drop))
 
   pub settle_moves : (r : Result Unit Fault) → Settled m start n m' r → Moves W X m' r
   settle_moves (Ok u) done = rests X m' sound done.lit_after (done.effect.current ∙ s.current) (settled_sure done.effect.sure)
@@ -117,24 +77,17 @@ module _ (W : List ℕ) (start n : ℕ) (X : List ℕ) (m m' : Words) (s : Stori
       ⊎_elim
       (λ f. ⊎_elim
       (λ kept. let now = kept.current ∙ s.current in
-      cut W X m' e (dark m' e start f.dark f.says) sound (ap length now ∙ long)
-      (λ k. inr (ap (λ l. word l k) now)) (λ k. same_words W X m'.sure m.sure k kept.sure (s.either k)))
+      cut W X m' e (dark m' e start f.dark f.says) sound (ap length now ∙ long) (λ k. grind arith) (λ k. grind (arith, s.either k)))
       (λ done. let now = done.1.current ∙ s.current in
-      cut W X m' e (dark m' e start f.dark f.says) sound (ap length now ∙ long)
-      (λ k. inr (ap (λ l. word l k) now)) (λ k. inr (ap (λ l. word l k) (settled_sure done.1.sure))))
+      let sure = settled_sure done.1.sure in
+      cut W X m' e (dark m' e start f.dark f.says) sound (ap length now ∙ long) (λ k. grind arith) (λ k. grind arith))
       (failed_words f))
       (λ d. absurd (omega (arith, d.reason, ap length s.current)))
       failed
 
 -- part of a run, on the way to all of it
 part_way : (W : List ℕ) (start : ℕ) (run : List ℕ) (i n : ℕ) → start + n ≤ length W → n ≤ length run → i ≤ n → (k : ℕ) → OneOf W (paste W start run n) (paste W start run i) k
-part_way W start run i n room enough le k =
-    ⊎_elim (λ b. inl (paste_before W start run i (omega arith) (omega arith) k b))
-    (λ b. ⊎_elim
-    (λ c. inr (paste_inside W start run i (omega arith) (omega arith) k b c ∙ sym (paste_inside W start run n room enough k b (omega arith))))
-    (λ c. inl (paste_after W start run i (omega arith) (omega arith) k c))
-    (cases_lt k (start + i)))
-    (cases_lt k start)
+part_way W start run i n room enough le k = grind (arith, paste_before, paste_inside, paste_after)
 
 -- a run that is pasted into W
 module _ (W : List ℕ) (start : ℕ) (run : List ℕ) (m m' : Words) (room : start + length run ≤ length W) where
@@ -187,8 +140,3 @@ module _ (W : List ℕ) (m m' : Words) where
   pub clear_moves : (i n : ℕ) → i ≡ length W → n ≡ length W → Clearing i m → Sound m' → (r : Result Unit Fault) → Settled m 0 n m' r → Moves W zeros m' r
   clear_moves i n end all s sound r done =
       subst (λ X. Moves W X m' r) whole (run_moves W 0 zeros m m' (omega (arith, count)) i (end ∙ sym count) s sound r (subst (λ k. Settled m 0 k m' r) (all ∙ sym count) done))
-
--- the exit of a `?`
-pub moves_exit : (W X : List ℕ) (m : Words) (e : Fault) (r : Result Unit Fault) → IsErrAnd r (λ y. y ≡ e) → Cut W X m e → Moves W X m r
-moves_exit W X m e (Ok u) by failed = absurd by
-moves_exit W X m e (Err y) by failed = subst (λ z. Cut W X m z) (sym by) failed

@@ -1,38 +1,48 @@
-use Rattle.std.proofs.Common.{◌≡◌, ℕ, ◌≤◌, true, ◌&&◌, ltb, leb, List, get_or, drop, sym, refl, ap, ◌∙◌}
-use Rattle.std.proofs.lemmas.Bool.{and_parts, leb-true}
-use Rattle.std.specs.Str.{bytes_eq}
-use Rattle.layout.specs.Entries.{said, entry_fits, entry_words, is_mark, piece_fits}
+use Rattle.std.proofs.Common.{◌≡◌, ℕ, ◌&&◌, ◌++◌, ◌-◌, ltb, List, length, get_or, take, drop, replicate, sym, refl, ap, ◌∙◌}
+use Rattle.std.proofs.lemmas.Bool.{and_from, and_left, and_right}
+use Rattle.layout.specs.Entries.{said, entry_words, piece_fits}
+use Rattle.layout.specs.Marks.{is_mark}
+use Rattle.layout.specs.Packing.{unpacked}
 use Rattle.layout.proofs.Packed.{length-unpacked}
-use Rattle.layout.proofs.Reading.{no_entry_wide, no_entry_unfit, no_entry_other, an_entry, cut_out}
+use Rattle.layout.proofs.Reading.{no_entry_wide, no_entry_unfit, no_entry_other, an_entry, cut_out, from_ne, from_not_ne}
 use Rattle.layout.proofs.entries.read_entry.Goals as goal
 
-pub returns-then-words-ne68 : goal.returns-then-words-ne68
-returns-then-words-ne68 c = (no_entry_wide c.args.words.now c.if-words-ne68.true, refl)
+pub returns-then-words-ne-ENTRY_WORDS : goal.returns-then-words-ne-ENTRY_WORDS
+returns-then-words-ne-ENTRY_WORDS c = (no_entry_wide c.args.words.now c.if-words-ne-ENTRY_WORDS.true, c.declines-bad.ensures)
+
+pub returns-in_default : goal.returns-in_default
+returns-in_default c = let ws = c.args.words.now in (no_entry_unfit ws (and_left (is_mark (get_or ws 0 0)) _ c.in_default.ensures), c.declines-bad.ensures)
 
 -- the words' own count is the length of what they say
-fits_said : (ws : List ℕ) → (is_mark (get_or ws 0 0) && (ltb (get_or ws 1 0) 16 && piece_fits (get_or ws 2 0) (get_or ws 3 0))) ≡ entry_fits (said ws)
-fits_said ws = ap (λ n. is_mark (get_or ws 0 0) && (ltb (get_or ws 1 0) 16 && piece_fits (get_or ws 2 0) n)) (sym (length-unpacked (get_or ws 3 0) (drop 4 ws)))
+place_said : (ws : List ℕ) → (ltb (get_or ws 1 0) 16 && piece_fits (get_or ws 2 0) (get_or ws 3 0)) ≡ (ltb (said ws).row 16 && piece_fits (said ws).offset (length (said ws).bytes))
+place_said ws = ap (λ n. ltb (get_or ws 1 0) 16 && piece_fits (get_or ws 2 0) n) (sym (length-unpacked (get_or ws 3 0) (drop 4 ws)))
 
-few : (ws : List ℕ) → true ≡ (is_mark (get_or ws 0 0) && (ltb (get_or ws 1 0) 16 && piece_fits (get_or ws 2 0) (get_or ws 3 0))) → get_or ws 3 0 ≤ 512
-few ws fits =
-    leb-true _ _ (and_parts (leb (get_or ws 3 0) 512) _ (and_parts (leb 1 (get_or ws 3 0)) _ (and_parts _ _ (and_parts (is_mark (get_or ws 0 0)) _ (sym fits)).1).1).1).0
-
-pub returns-then-not-entry_fits : goal.returns-then-not-entry_fits
-returns-then-not-entry_fits c = let ws = c.args.words.now in (no_entry_unfit ws (sym (fits_said ws) ∙ sym c.if-not-entry_fits.ensures), refl)
-
-pub returns-then-not-same_words : goal.returns-then-not-same_words
-returns-then-not-same_words c =
+pub returns-then-not-place_fits : goal.returns-then-not-place_fits
+returns-then-not-place_fits c =
     let ws = c.args.words.now in
-    let cut = cut_out ws c.unpack_front-bytes.result 4 64 (get_or ws 3 0) 512 c.if-words-ne68.false (few ws c.if-not-entry_fits.ensures) c.unpack_front-bytes.ensures in
-    let again = c.words_of-again.ensures.words ∙ ap (λ (bs : List ℕ). entry_words (record { mark = get_or ws 0 0; row = get_or ws 1 0; offset = get_or ws 2 0; bytes = bs })) cut.0 in
-    (no_entry_other ws (ap (bytes_eq ws) (sym again) ∙ sym c.if-not-same_words.ensures), refl)
+    (no_entry_unfit ws (and_right (is_mark (get_or ws 0 0)) _ (sym (place_said ws) ∙ sym c.if-not-place_fits.ensures)), c.declines-bad.ensures)
+
+-- the words made again of what was read are those of what the words say
+made_again : (ws again bs out : List ℕ) (k : ℕ) → k ≡ get_or ws 3 0 → bs ≡ unpacked (get_or ws 3 0) (take (length ws - 4) (drop 4 ws)) ++ replicate (512 - get_or ws 3 0) 0 → out ≡ take k bs → again ≡ entry_words (record { mark = get_or ws 0 0; row = get_or ws 1 0; offset = get_or ws 2 0; bytes = out }) → again ≡ entry_words (said ws)
+made_again ws again bs out k count front slice is =
+    let cut = cut_out ws bs 4 (get_or ws 3 0) 512 front in
+    is ∙ ap (λ (b : List ℕ). entry_words (record { mark = get_or ws 0 0; row = get_or ws 1 0; offset = get_or ws 2 0; bytes = b })) (slice ∙ ap (λ n. take n bs) count ∙ cut.0)
+
+pub returns-then-ne : goal.returns-then-ne
+returns-then-ne c =
+    let ws = c.args.words.now in
+    let b = c.unpacked-bytes in
+    let again = made_again ws c.as_slice-2.result.now b.result.bytes c.as_slice.result.now b.result.count b.ensures.count b.ensures.bytes c.as_slice.ensures (c.as_slice-2.ensures ∙ c.words_of-again.ensures.words) in
+    (no_entry_other ws (λ e. from_ne ws c.as_slice-2.result.now c.if-ne.ensures (e ∙ sym again)), c.declines-bad.ensures)
 
 pub returns : goal.returns
 returns c =
     let ws = c.args.words.now in
-    let cut = cut_out ws c.unpack_front-bytes.result 4 64 (get_or ws 3 0) 512 c.if-words-ne68.false (few ws c.if-not-entry_fits.ensures) c.unpack_front-bytes.ensures in
-    let again = c.words_of-again.ensures.words ∙ ap (λ (bs : List ℕ). entry_words (record { mark = get_or ws 0 0; row = get_or ws 1 0; offset = get_or ws 2 0; bytes = bs })) cut.0 in (
+    let b = c.unpacked-bytes in
+    let again = made_again ws c.as_slice-2.result.now b.result.bytes c.as_slice.result.now b.result.count b.ensures.count b.ensures.bytes c.as_slice.ensures (c.as_slice-2.ensures ∙ c.words_of-again.ensures.words) in
+    let mark = c.in-Ok.ensures in
+    let place = sym (place_said ws) ∙ sym c.if-not-place_fits.ensures in (
       said ws,
-      an_entry ws (sym (fits_said ws) ∙ sym c.if-not-entry_fits.ensures) (ap (bytes_eq ws) (sym again) ∙ sym c.if-not-same_words.ensures),
-      record { mark = refl; row = refl; offset = refl; count = sym (length-unpacked (get_or ws 3 0) (drop 4 ws)); few = few ws c.if-not-entry_fits.ensures; front = cut.1 },
+      an_entry ws (and_from (is_mark (get_or ws 0 0)) _ mark.0 place) (from_not_ne ws c.as_slice-2.result.now c.if-ne.ensures ∙ again),
+      record { mark = mark.1; row = refl; offset = refl; count = b.ensures.count ∙ sym (length-unpacked (get_or ws 3 0) (drop 4 ws)); front = (cut_out ws b.result.bytes 4 (get_or ws 3 0) 512 b.ensures.bytes).1 },
     )

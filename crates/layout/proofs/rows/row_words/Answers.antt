@@ -1,4 +1,4 @@
-use Rattle.std.proofs.Common.{◌≡◌, leb, [], ◌∷◌, ◌++◌, length, Ok, sym, ap, ◌∙◌, append-nil, arith}
+use Rattle.std.proofs.Common.{◌≡◌, leb, [], ◌∷◌, ◌++◌, length, Ok, sym, ap, ◌∙◌, append-nil, is_ok, arith}
 use Rattle.std.proofs.lemmas.Bool.{and_parts, cond-true}
 use Rattle.layout.specs.Rows.{row_words, read_path}
 use Rattle.layout.proofs.Reading.{read_path-row_words}
@@ -11,7 +11,7 @@ returns c =
     let fits = sym c.if-not-path_fits.ensures in
     let few = (and_parts (leb (length path) 32) _ (and_parts (leb 1 (length path)) _ fits).1).0 in
     let is : (length path ∷ (c.pack.new.words ++ [])) ≡ row_words path =
-    ap (λ ws. length path ∷ ws) (append-nil c.pack.new.words ∙ c.pack.ensures.after ∙ cond-true c.pack.result _ _ (c.pack.ensures.fits ∙ few)) in
+    ap (λ ws. length path ∷ ws) (append-nil c.pack.new.words ∙ c.pack.ensures.after ∙ cond-true (is_ok c.pack.result) _ _ (c.pack.ensures.fits ∙ few)) in
     record {
       words = ap (λ ws. Ok ws) is ∙ sym (cond-true _ _ _ fits);
       reads_back = ap read_path is ∙ read_path-row_words path (λ i. omega (arith, c.type_inv.path i)) fits;

@@ -1,12 +1,20 @@
-use Rattle.std.proofs.Common.{sym, ◌∙◌, below_more}
-use Rattle.std.proofs.lemmas.Slice.Eq.{slice_eq-Decides}
-use Rattle.std.proofs.lemmas.Bool.Decides.{not_from_Decides, Decides-eqb}
+use Rattle.std.proofs.Common.{◌≡◌, ℕ, true, false, take, drop, rules, sym, ◌∙◌}
+use Rattle.std.proofs.lemmas.Bool.{false≢true}
+use Rattle.std.proofs.lemmas.Iterator.{first_from_Range}
+use Rattle.std.proofs.lemmas.Slice.Eq.{bytes_eq-Decides}
+use Rattle.std.specs.Str.{bytes_eq}
+use Rattle.layout.specs.Places.{row_at}
+use Rattle.nvlog.specs.Rows.{RowIs}
+use Rattle.nvlog.proofs.Naming.{first_by}
 use Rattle.nvlog.proofs.writing.find_row.Goals as goal
 
-pub loop-r-preserved : goal.loop-r-preserved
-loop-r-preserved c =
-    below_more _ c.loop-r.r c.loop-r.invariant
-    (λ e. not_from_Decides c.eq.result (slice_eq-Decides Decides-eqb _ _ _ c.eq.ensures) c.if-eq.false (c.part.ensures ∙ e))
-
-pub returns-then-eq : goal.returns-then-eq
-returns-then-eq c = (c.loop-r-test.true, sym c.part.ensures ∙ (slice_eq-Decides Decides-eqb _ _ _ c.eq.ensures).0 c.if-eq.true, c.loop-r.invariant)
+pub returns : goal.returns
+returns c =
+    let W = c.args.words.now in
+    let row = c.args.row.now in
+    let held = λ (q : ℕ). take 5 (drop (row_at q) W) in
+    first_by (λ q. bytes_eq (held q) row) (RowIs W row)
+    (λ q. (bytes_eq-Decides (held q) row).0)
+    (λ q other is. false≢true (sym other ∙ (bytes_eq-Decides (held q) row).1 is))
+    c.find.result
+    (first_from_Range (record { start = 0; end = 16 }) _ _ c.find.result (λ q. bytes_eq (held q) row ≡ true) (λ q. bytes_eq (held q) row ≡ false) c.find.ensures.ran (λ x q h. search rules) (λ x q h. (search rules, search rules)))
