@@ -53,12 +53,12 @@ impl From<Refusal> for u8 {
     }
 }
 
-// What the refusal means, in words.
-impl fmt::Display for Refusal {
-    ghost output = { λ why. Some (phrase_of why) };
-
-    fn fmt<W: fmt::Write>(&self, f: &mut fmt::Formatter<W>) -> fmt::Result {
-        f.write_str(match self {
+impl Refusal {
+    // What the refusal means, in words.
+    pub fn phrase(self) -> &'static str
+        ensures { result.now ≡ phrase_of self }
+    {
+        match self {
             Refusal::MachineDown => "the machine is down",
             Refusal::PowerFailedInCall => "power failed in this call",
             Refusal::UnknownMode => "unknown mode",
@@ -81,7 +81,15 @@ impl fmt::Display for Refusal {
             Refusal::OutOfRange => "out of range",
             Refusal::UnsettledWord => "the word is not settled",
             Refusal::PowerFailed => "power failed",
-        })
+        }
+    }
+}
+
+impl fmt::Display for Refusal {
+    ghost output = { λ why. Some (phrase_of why) };
+
+    fn fmt<W: fmt::Write>(&self, f: &mut fmt::Formatter<W>) -> fmt::Result {
+        f.write_str(self.phrase())
     }
 }
 

@@ -12,7 +12,7 @@ pub fn path_fits(path: &[u8]) -> bool
     !path.is_empty() && path.len() <= 32 && !path.contains(&0)
 }
 
-// Whether a run of `count` from `start` on ends within `length`.
+// Whether a run of `count` from `start` on ends within `length`. It is two numbers and no `Range`, which cannot say a run whose end is no number.
 pub fn run_fits(start: usize, count: usize, length: usize) -> bool
     ensures { result ≡ nat_le (start + count) length }
 {

@@ -1,7 +1,7 @@
 -- What the calls of a flat shelf come to, over the image, the limit and the flags alone.
-use Rattle.std.proofs.Common.{◌≡◌, ℕ, ◌+◌, ◌<◌, ◌≤◌, Bool, true, false, cond, not, eqb, leb, List, [], length, get_or, set, is_some, Some, None, Option, sym, refl, ap, ◌∙◌, subst, inl, inr, ⊎_elim, arith}
+use Rattle.std.proofs.Common.{◌≡◌, ℕ, ◌+◌, ◌<◌, ◌≤◌, Bool, true, false, cond, not, eqb, List, [], length, get_or, set, is_some, Some, None, Option, sym, refl, ap, ◌∙◌, subst, inl, inr, ⊎_elim, arith}
 use Rattle.std.proofs.lemmas.List.{get_or_past, get_or-set_same, get_or-set_other, length-set}
-use Rattle.std.proofs.lemmas.Bool.{cases_Bool, cond-true, cond-false, eqb-true, eqb-false, leb-true, false≢true, not-true, both_ways}
+use Rattle.std.proofs.lemmas.Bool.{cases_Bool, cond-true, cond-false, eqb-true, eqb-false, false≢true, not-true, both_ways}
 use Rattle.std.proofs.lemmas.Grind.{common_steps}
 use Rattle.std.specs.Option.{option_map}
 use Rattle.device.proofs.Writing.{length_part, part_same, written_nothing, written_size}
@@ -158,10 +158,7 @@ module _ (im : List ℕ) (L : ℕ) (opened : List Bool) (ok : is_some (unfit_at 
     }
 
   -- data is written to an open file
-  module _ (h : ℕ) (is_open : get_or opened h false ≡ true) (at : ℕ) (ds : List ℕ) (within : leb (at + length ds) L ≡ true) where
-    inside : at + length ds ≤ L
-    inside = leb-true (at + length ds) L within
-
+  module _ (h : ℕ) (is_open : get_or opened h false ≡ true) (at : ℕ) (ds : List ℕ) (inside : at + length ds ≤ L) where
     put_nothing : length ds ≡ 0 → Put (flat im L opened) h at ds (flat im L opened)
     put_nothing e =
         let B : Option File → Type 0 = λ o. Both (LooseChoice at ds) o o in
@@ -246,8 +243,8 @@ module _ (im : List ℕ) (L : ℕ) (opened : List Bool) (ok : is_some (unfit_at 
     pub written_whole : is_some (unfit_at (image_written im L h at ds) L) ≡ false
     written_whole = putting.whole
 
-    pub written_flags : Live opened (image_written im L h at ds) L
-    written_flags = putting.flags
+    pub written_taken : (k : ℕ) → get_or opened k false ≡ true → taken (record_at (image_written im L h at ds) L k) ≡ true
+    written_taken = putting.flags.1
 
     pub written_put : Put (flat im L opened) h at ds (flat (image_written im L h at ds) L opened)
     written_put = putting.wrote

@@ -1,10 +1,11 @@
 // The image: 16 records, one after the other.
 ghost use Rattle.std.specs.Prelude.{◌≡◌, ◌+◌, ◌<◌, ◌≤◌, IfSome, Some, length};
 ghost use Rattle.device.specs.Files.{limit_fits};
-ghost use Rattle.flat.specs.Images.{Shape, bad, image_written, labelled_at, record_at, shape_fits, slot, vacancy};
+ghost use Rattle.flat.specs.Images.{Shape, bad, image_written, labelled_at, record_at, shape_fits, slot, start, vacancy};
 ghost use Rattle.flat.specs.Searches.{first};
 
 use crate::records::{HEAD, PATH, Record, SIZE, SIZE_END};
+use std::ops::Range;
 
 // How many records there are.
 pub const RECORDS: usize = 16;
@@ -32,16 +33,28 @@ pub struct Image {
 }
 
 impl Image {
-    // Record r. That r is below 16 is asked here and of the calls below: a type for it is no plainer, since a shelf's handles are numbers.
+    // Where record r stands. That r is below 16 is asked here and of the calls below: a type for it is no plainer, since a shelf's handles
+    // are numbers.
+    fn span(&self, r: usize) -> Range<usize>
+        requires { r < 16 }
+        ensures start { result.start ≡ start self.now.limit r }
+        ensures end { result.end ≡ start self.now.limit r + 64 + self.now.limit }
+        ensures within { result.end ≤ length self.now.bytes.items }
+    {
+        let at = r * (HEAD + self.limit);
+        at..at + HEAD + self.limit
+    }
+
+    // Record r.
     #[tactic(auto, using(crate::proofs::Edits::slices))]
     pub fn record(&self, r: usize) -> Record<'_>
         requires { r < 16 }
         ensures is { result.bytes.now ≡ record_at self.now.bytes.items self.now.limit r }
         ensures long { length result.bytes.now ≡ 64 + self.now.limit }
     {
-        let at = r * (HEAD + self.limit);
+        let span = self.span(r);
         Record {
-            bytes: &self.bytes[at..at + HEAD + self.limit],
+            bytes: &self.bytes[span],
         }
     }
 
@@ -85,9 +98,8 @@ impl Image {
         ensures bytes { self.new.bytes.items ≡ labelled_at self.old.bytes.items self.old.limit path.now (Some r) }
         ensures limit { self.new.limit ≡ self.old.limit }
     {
-        // Where record r begins stands in three calls: to lend it out for writing needs a starred clause, which is no plainer.
-        let at = r * (HEAD + self.limit);
-        let record = &mut self.bytes[at..at + HEAD + self.limit];
+        let span = self.span(r);
+        let record = &mut self.bytes[span];
         record[0] = path.len() as u8;
         record[PATH..PATH + path.len()].copy_from_slice(path);
     }
@@ -103,8 +115,8 @@ impl Image {
             return;
         }
         let size = self.record(r).size().max(at + bytes.len());
-        let start = r * (HEAD + self.limit);
-        let record = &mut self.bytes[start..start + HEAD + self.limit];
+        let span = self.span(r);
+        let record = &mut self.bytes[span];
         record[HEAD + at..HEAD + at + bytes.len()].copy_from_slice(bytes);
         record[SIZE..SIZE_END].copy_from_slice(&(size as u32).to_le_bytes());
     }

@@ -1,5 +1,7 @@
 // What a flat shelf is, how it is made of an image and becomes one again, and what it does.
-ghost use Rattle.std.specs.Prelude.{◌≡◌, ◌+◌, false, is_some, nat_le, slice_index_or};
+ghost use Rattle.std.specs.Prelude.{◌≡◌, ◌+◌, ◌≤◌, true, false, IfErr, OnErr, OnOk, is_some, slice_index_or};
+ghost use Rattle.device.specs.Numbers.{Says};
+ghost use Rattle.device.specs.Paths.{path_fits};
 ghost use Rattle.flat.specs.Images.{unfit_at};
 ghost use Rattle.flat.specs.Shelves.{Live};
 
@@ -12,7 +14,7 @@ use std::alloc::Global;
 #[derive(Drop)]
 pub struct Flat {
     image: Image,
-    opened: [bool; RECORDS], // one flag beside each record: fixed memory
+    opened: [bool; RECORDS], // not in the image's bytes: those are the shelf's format, and outlive the handles
     ghost fit: { is_some (unfit_at image.bytes.items image.limit) ≡ false },
     ghost live: { Live opened image.bytes.items image.limit },
 }
@@ -32,7 +34,7 @@ pub struct Listed<'a> {
 }
 
 impl Flat {
-    ghost use Rattle.device.specs.ShelfCalls.{restarted};
+    ghost use Rattle.device.specs.ShelfCalls.{OutOfReach, restarted};
     ghost use Rattle.flat.specs.Makings.{MadeOver, MadeEmpty, ListedAt};
     ghost use Rattle.flat.specs.Meanings.{flat_of, image_of};
     ghost use Rattle.flat.specs.Shelves.{flat, none_open};
@@ -44,7 +46,7 @@ impl Flat {
     {
         if !shape_fits(&image, limit) {
             return Err(Unfit {
-                fault: Layer::Shelf.declines(Refusal::UnfitImage, RECORDS as u64),
+                fault: unfit_image(RECORDS),
                 image,
             });
         }
@@ -54,7 +56,7 @@ impl Flat {
         };
         if let Some(r) = image.first_bad() {
             return Err(Unfit {
-                fault: Layer::Shelf.declines(Refusal::UnfitImage, r as u64),
+                fault: unfit_image(r),
                 image: image.bytes,
             });
         }
@@ -70,10 +72,7 @@ impl Flat {
         ensures { MadeEmpty limit result }
     {
         if !limit_fits(limit) {
-            return Err(Failure::Declined(Layer::Shelf.declines(
-                Refusal::UnfitImage,
-                RECORDS as u64,
-            )));
+            return Err(Failure::Declined(unfit_image(RECORDS)));
         }
         let bytes = Vec::from_elem(heap, 0, RECORDS * (HEAD + limit))?;
         Ok(Flat {
@@ -109,12 +108,50 @@ impl Flat {
         })
     }
 
-    // Whether the handle stands for a path.
-    fn is_open(&self, h: usize) -> bool
-        ensures { result ≡ slice_index_or self.now.opened h false }
+    // Declines a handle that stands for no path.
+    fn check_open(&self, h: usize) -> Result<(), Fault>
+        ensures known { OnOk result (slice_index_or self.now.opened h false ≡ true) }
+        ensures unknown { OnErr result (slice_index_or self.now.opened h false ≡ false) }
+        ensures declined { IfErr result (λ e. Says e 20 3 h) }
     {
-        self.opened.get(h).copied().unwrap_or(false)
+        if !self.opened.get(h).copied().unwrap_or(false) {
+            return Err(Layer::Shelf.declines(Refusal::OutOfRange, h as u64));
+        }
+        Ok(())
     }
+
+    // Declines such a handle, and `count` bytes from a position on that pass the limit.
+    fn check_reach(&self, h: usize, at: usize, count: usize) -> Result<(), Fault>
+        ensures known { OnOk result (slice_index_or self.now.opened h false ≡ true) }
+        ensures within { OnOk result (at + count ≤ self.now.image.limit) }
+        ensures out { OnErr result (OutOfReach (flat_of self.now) h (at + count)) }
+        ensures declined { IfErr result (λ e. Says e 20 3 h) }
+    {
+        self.check_open(h)?;
+        if !run_fits(at, count, self.image.limit) {
+            return Err(Layer::Shelf.declines(Refusal::OutOfRange, h as u64));
+        }
+        Ok(())
+    }
+}
+
+// What is said of an image that is unfit at a record, or at 16 for its limit or length.
+fn unfit_image(place: usize) -> Fault
+    ensures { Says result 19 3 place }
+{
+    Layer::Shelf.declines(Refusal::UnfitImage, place as u64)
+}
+
+// Declines a path that no file can have.
+fn check_path(path: &[u8]) -> Result<(), Fault>
+    ensures good { OnOk result (path_fits path.now ≡ true) }
+    ensures bad { OnErr result (path_fits path.now ≡ false) }
+    ensures declined { IfErr result (λ e. Says e 4 3 16) }
+{
+    if !path_fits(path) {
+        return Err(Layer::Shelf.declines(Refusal::BadPath, RECORDS as u64));
+    }
+    Ok(())
 }
 
 impl Shelf for Flat {
@@ -135,9 +172,7 @@ impl Shelf for Flat {
         ensures has_answered { HasAnswered (flat_of self.old) path.now (flat_of self.new) result }
         ensures image { image_of self.new ≡ image_of self.old }
     {
-        if !path_fits(path) {
-            return Err(Layer::Shelf.declines(Refusal::BadPath, RECORDS as u64));
-        }
+        check_path(path)?;
         Ok(self.image.find(path, RECORDS).is_some())
     }
 
@@ -146,9 +181,7 @@ impl Shelf for Flat {
         ensures sized { Sized (flat_of self.old) h (flat_of self.new) result }
         ensures image { image_of self.new ≡ image_of self.old }
     {
-        if !self.is_open(h) {
-            return Err(Layer::Shelf.declines(Refusal::OutOfRange, h as u64));
-        }
+        self.check_open(h)?;
         Ok(self.image.record(h).size())
     }
 
@@ -157,9 +190,7 @@ impl Shelf for Flat {
         ensures opened { Opened (flat_of self.old) path.now (flat_of self.new) result }
         ensures image { ImageOpened (image_of self.old) self.old.image.limit path.now (image_of self.new) result }
     {
-        if !path_fits(path) {
-            return Err(Layer::Shelf.declines(Refusal::BadPath, RECORDS as u64));
-        }
+        check_path(path)?;
         if let Some(r) = self.image.find(path, RECORDS) {
             self.opened[r] = true;
             return Ok(r);
@@ -177,21 +208,17 @@ impl Shelf for Flat {
         ensures has_read { HasRead (flat_of self.old) h at buffer.old buffer.new (flat_of self.new) result }
         ensures image { image_of self.new ≡ image_of self.old }
     {
-        if !self.is_open(h) || !run_fits(at, buffer.len(), self.image.limit) {
-            return Err(Layer::Shelf.declines(Refusal::OutOfRange, h as u64));
-        }
+        self.check_reach(h, at, buffer.len())?;
         self.image.record(h).fetch(at, buffer);
         Ok(())
     }
 
-    #[tactic(auto, using(crate::proofs::Calls::written_whole, crate::proofs::Calls::written_flags, crate::proofs::Calls::written_put))]
+    #[tactic(auto, using(crate::proofs::Calls::written_whole, crate::proofs::Calls::written_taken, crate::proofs::Calls::written_put))]
     fn write(&mut self, h: usize, at: usize, bytes: &[u8]) -> Result<(), Fault>
         ensures has_written { HasWritten (flat_of self.old) h at bytes.now (flat_of self.new) result }
         ensures image { ImageWritten (image_of self.old) self.old.image.limit h at bytes.now (image_of self.new) result }
     {
-        if !self.is_open(h) || !run_fits(at, bytes.len(), self.image.limit) {
-            return Err(Layer::Shelf.declines(Refusal::OutOfRange, h as u64));
-        }
+        self.check_reach(h, at, bytes.len())?;
         self.image.store(h, at, bytes);
         Ok(())
     }

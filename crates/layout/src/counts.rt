@@ -49,7 +49,8 @@ impl EntryCount {
         [1, 8, 80, 88, 1, 89, 68 * self.n as u64, 0]
     }
 
-    // The first word of the entry d places after a position, round the circle.
+    // The first word of the entry d places after a position, round the circle. The two are asked for together and never kept, so they are two
+    // numbers.
     pub fn entry_start(self, position: usize, d: usize) -> Option<usize>
         ensures { result ≡ entry_for self.n position d }
     {

@@ -8,7 +8,7 @@ use crate::fronts::Front;
 use crate::marks::Mark;
 use crate::packing::pack;
 use crate::places::{ENTRY_WORDS, ROWS};
-use device::{Fault, Layer, Refusal};
+use device::{Fault, Layer, Refusal, run_fits};
 
 pub const MOST_GROUP: usize = 8;
 
@@ -36,24 +36,26 @@ pub struct Entry {
 fn place_fits(row: u64, offset: u64, count: u64) -> bool
     ensures { result ≡ (nat_lt row 16 && piece_fits offset count) }
 {
-    row < ROWS as u64 && (1..=PIECE as u64).contains(&count) && offset <= MOST_FILE - count
+    row < ROWS as u64
+        && (1..=PIECE as u64).contains(&count)
+        && run_fits(offset as usize, count as usize, MOST_FILE as usize)
 }
 
-fn words_of(mark: u64, row: u64, offset: u64, bytes: &[u8]) -> [u64; 68]
+fn words_of(mark: Mark, row: u64, offset: u64, bytes: &[u8]) -> [u64; 68]
     requires { length bytes.now ≤ 512 }
-    ensures words { result ≡ entry_words (record { mark = mark; row = row; offset = offset; bytes = bytes.now }) }
+    ensures words { result ≡ entry_words (record { mark = mark_word mark; row = row; offset = offset; bytes = bytes.now }) }
     ensures small { Bytes bytes.now }
 {
     let mut words = [0; 68];
-    words[0] = mark;
+    words[0] = mark.into();
     words[1] = row;
     words[2] = offset;
     words[3] = bytes.len() as u64;
-    let _ = pack(bytes, &mut words[4..]);
+    pack(bytes, &mut words[4..]).unwrap();
     words
 }
 
-// The words of one piece, as an entry with a mark.
+// The words of one piece, as an entry with a mark. A row and its pieces stay two parameters: a struct of both would be made for each call alone.
 pub(crate) fn piece_words(row: u64, mark: Mark, piece: &Piece<'_>) -> Option<[u64; 68]>
     requires { is_mark (mark_word mark) ≡ true }
     ensures words { result ≡ words_if_fit (piece_entry row mark piece.now) }
@@ -62,7 +64,7 @@ pub(crate) fn piece_words(row: u64, mark: Mark, piece: &Piece<'_>) -> Option<[u6
     if !place_fits(row, piece.offset, piece.bytes.len() as u64) {
         return None;
     }
-    Some(words_of(mark.into(), row, piece.offset, piece.bytes))
+    Some(words_of(mark, row, piece.offset, piece.bytes))
 }
 
 // The words of the entry d places after the first one of a group, its mark included.
@@ -94,7 +96,7 @@ pub fn read_entry(words: &[u64], position: u64) -> Result<Entry, Fault>
         return Err(bad);
     }
     let bytes: Front<512> = Front::unpacked(&words[4..], words[3] as usize);
-    let again = words_of(words[0], row, offset, bytes.as_slice());
+    let again = words_of(mark, row, offset, bytes.as_slice());
     if words != again.as_slice() {
         return Err(bad);
     }

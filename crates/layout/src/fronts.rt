@@ -21,7 +21,7 @@ impl<const N: usize> Front<N> {
         ensures bytes { result.bytes ≡ unpacked n words.now ++ replicate (N - n) 0 }
     {
         let mut bytes = [0; N];
-        let _ = unpack(words, &mut bytes[..n]);
+        unpack(words, &mut bytes[..n]).unwrap();
         Front { count: n, bytes }
     }
 

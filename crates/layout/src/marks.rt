@@ -1,5 +1,8 @@
 // What the mark of an entry says.
-ghost use Rattle.std.specs.Prelude.{◌≡◌, ◌<◌, ◌≤◌, true};
+ghost use Rattle.std.specs.Prelude.{◌≡◌, ◌<◌, ◌≤◌, true, codes, Some};
+
+use std::error::Error;
+use std::fmt;
 
 // Which of its group's entries an entry is.
 #[derive(Clone, Copy, PartialEq, Eq, Debug)]
@@ -13,6 +16,16 @@ pub enum Mark {
 // A word that is no mark.
 #[derive(Clone, Copy, PartialEq, Eq, Debug)]
 pub struct NoMark;
+
+impl fmt::Display for NoMark {
+    ghost output = { λ _. Some (codes "no mark of an entry") };
+
+    fn fmt<W: fmt::Write>(&self, f: &mut fmt::Formatter<W>) -> fmt::Result {
+        f.write_str("no mark of an entry")
+    }
+}
+
+impl Error for NoMark {}
 
 impl Mark {
     ghost use Rattle.layout.specs.Marks.{is_mark, mark_of, mark_word};

@@ -20,7 +20,7 @@ pub fn row_words(path: &[u8]) -> Result<[u64; 5], Fault>
     }
     let mut words = [0; 5];
     words[0] = path.len() as u64;
-    let _ = pack(path, &mut words[1..]);
+    pack(path, &mut words[1..]).unwrap();
     Ok(words)
 }
 

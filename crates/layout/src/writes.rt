@@ -43,7 +43,7 @@ pub fn piece_of<'a>(offset: u64, bytes: &'a [u8], d: usize) -> Option<Piece<'a>>
     })
 }
 
-// The pieces of a write to a file of at most `limit` bytes.
+// The pieces of a write to a file of at most `limit` bytes. The library cuts them; a call of `piece_of` for each would count them by hand.
 pub fn split<'a>(
     heap: Global,
     limit: u64,

@@ -49,7 +49,7 @@ impl Power {
         };
         let Some(fewer) = left.checked_sub(1) else {
             self.on = false;
-            return Err(Layer::Module.declines(Refusal::PowerFailed, i as u64)); // it fails now
+            return self.check(i); // it fails now
         };
         // A write through `get_mut` was tried and does not prove: it is lost to the proof.
         self.counts[self.life] = fewer;

@@ -107,8 +107,7 @@ fn found(pattern: u64, i: usize, current: u64, sure: u64) -> u64
     }
 }
 
-// Copies the run of `count` words from word i on. As a line of `settle`, from field to field, it was tried and does not prove: the words are
-// lost to the proof.
+// Copies the run of `count` words from word i on. It is no line of `settle`: from one lent field to another, Rattle covers no such line.
 fn copy_run(from: &[u64], to: &mut [u64], i: usize, count: usize)
     requires from_long { i + count ≤ length from.now }
     requires to_long { i + count ≤ length to.old }
@@ -117,7 +116,7 @@ fn copy_run(from: &[u64], to: &mut [u64], i: usize, count: usize)
     to[i..i + count].copy_from_slice(&from[i..i + count]);
 }
 
-// Makes what is found of each word its current value. A loop over the `zip` of two `iter_mut` was tried and does not prove: what it writes
+// Makes what is found of each word its current value. A `zip` with the sure words was tried and does not prove: what is written through it
 // is lost to the proof.
 fn find_words(pattern: u64, current: &mut [u64], sure: &[u64])
     requires { length current.old ≤ length sure.now }

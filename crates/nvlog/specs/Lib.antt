@@ -1,3 +1,4 @@
 pub mod States
 pub mod Rows
 pub mod Writes
+pub mod Lines

@@ -1,5 +1,5 @@
 // One line of input as a command.
-#[derive(Clone, Copy)]
+#[derive(Clone, Copy, PartialEq, Eq, Debug)]
 pub enum Command<'a> {
     // Begin a log.
     Log { entries: usize },
@@ -7,7 +7,7 @@ pub enum Command<'a> {
     Use(Step<'a>),
 }
 
-#[derive(Clone, Copy)]
+#[derive(Clone, Copy, PartialEq, Eq, Debug)]
 pub enum Step<'a> {
     Name {
         path: &'a [u8],

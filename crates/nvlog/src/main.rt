@@ -2,11 +2,13 @@
 #![tactic(auto)]
 
 mod command;
+mod lines;
 mod reader;
 mod session;
 mod word_log;
 mod writing;
 
+use lines::Lines;
 use session::Session;
 use std::io::Read;
 
@@ -18,13 +20,9 @@ fn run(rt: &HostRuntime) -> anyhow::Result<()> {
     let heap = rt.alloc();
     let mut input = Vec::new(heap);
     rt.stdin().read_to_end(&mut input)?;
-    let lines: Vec<&[u8]> = input
-        .split_inclusive(|b| *b == b'\n')
-        .map(|line| line.strip_suffix(b"\n").unwrap_or(line))
-        .collect(heap)?;
     let mut session = Session {
         out: &mut rt.stdout(),
         heap,
     };
-    session.answer_all(lines.as_slice())
+    session.answer_all(Lines::new(input.as_slice()))
 }

@@ -29,7 +29,7 @@ pub fn read_writes(heap: Global, words: &[u64]) -> Result<Vec<Found>, Failure> {
     let mut position = reader.tail()?;
     let mut writes = Vec::new(heap);
     for _ in 0..entries.n {
-        if reader.mark_at(position) == 0 {
+        if reader.is_free(position) {
             break;
         }
         let found = reader.write_at(heap, position)?;
@@ -64,13 +64,12 @@ impl<'a> Reader<'a> {
         }
     }
 
-    // The mark of the entry at a position; past the words it counts as 0.
-    fn mark_at(&self, position: usize) -> u64 {
+    // Whether no entry waits at a position: its mark is 0, or there is no such word.
+    fn is_free(&self, position: usize) -> bool {
         self.entries
             .entry_start(position, 0)
             .and_then(|start| self.words.get(start))
-            .copied()
-            .unwrap_or(0)
+            .is_none_or(|mark| *mark == 0)
     }
 
     // The write whose first entry stands at a position.

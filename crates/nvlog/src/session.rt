@@ -1,8 +1,9 @@
 // Answers to commands.
-ghost use Rattle.std.specs.Prelude.{◌<◌, ◌≤◌, length, IfOk, OnSome};
-ghost use Rattle.std.specs.Slice.Iter.{iter_rest};
+ghost use Rattle.std.specs.Prelude.{◌<◌, ◌≤◌, IfOk, OnSome};
+ghost use Rattle.nvlog.specs.Lines.{left};
 
 use crate::command::{Command, Step, parse};
+use crate::lines::Lines;
 use crate::reader::{Found, read_writes};
 use crate::word_log::{Circle, WordLog};
 use device::{Failure, Fault, Module};
@@ -10,7 +11,6 @@ use layout::EntryCount;
 use memory::Battery;
 use std::alloc::Global;
 use std::io::Write;
-use std::slice::Iter;
 use std::{fmt, io};
 
 // What was laid out in a log.
@@ -31,6 +31,31 @@ impl fmt::Display for Total {
     }
 }
 
+// Why a step was not done: the log did not do it, or its answer could not be written.
+#[derive(Drop)]
+enum Trouble {
+    Log(Failure),
+    Output(io::Error),
+}
+
+impl From<Fault> for Trouble {
+    fn from(e: Fault) -> Trouble {
+        Trouble::Log(e.into())
+    }
+}
+
+impl From<Failure> for Trouble {
+    fn from(e: Failure) -> Trouble {
+        Trouble::Log(e)
+    }
+}
+
+impl From<io::Error> for Trouble {
+    fn from(e: io::Error) -> Trouble {
+        Trouble::Output(e)
+    }
+}
+
 // Where answers go, and where memory comes from.
 #[derive(Drop)]
 pub struct Session<'a, W: Write> {
@@ -40,8 +65,7 @@ pub struct Session<'a, W: Write> {
 
 impl<'a, W: Write> Session<'a, W> {
     // Answers each line of the input, and then says what was laid out in the last log.
-    pub fn answer_all(&mut self, lines: &[&[u8]]) -> anyhow::Result<()> {
-        let mut lines = lines.iter();
+    pub fn answer_all(&mut self, mut lines: Lines<'_>) -> anyhow::Result<()> {
         let mut total = Total::default();
         let mut next = self.until_log(&mut lines, |session, _| Ok(session.say(b"no log yet")?))?;
         while let Some(entries) = next {
@@ -67,13 +91,14 @@ impl<'a, W: Write> Session<'a, W> {
     // cannot be read, or a log that is declined, is answered here and leaves the log that is there.
     fn until_log<F: FnMut(&mut Self, Step<'_>) -> anyhow::Result<()>>(
         &mut self,
-        lines: &mut Iter<'_, &[u8]>,
+        lines: &mut Lines<'_>,
         mut act: F,
     ) -> anyhow::Result<Option<EntryCount>>
         requires { F.IsAlwaysCallable act }
-        ensures rest { length (iter_rest lines.new) ≤ length (iter_rest lines.old) }
-        ensures taken { IfOk result (λ next. OnSome next (length (iter_rest lines.new) < length (iter_rest lines.old))) }
+        ensures rest { left lines.new ≤ left lines.old }
+        ensures taken { IfOk result (λ next. OnSome next (left lines.new < left lines.old)) }
     {
+        // A `for` over `lines.by_ref()` was tried and its proof did not close: what is left of the lines after it is lost to the proof.
         while let Some(line) = lines.next() {
             match parse(line) {
                 None => self.unreadable(line)?,
@@ -87,8 +112,18 @@ impl<'a, W: Write> Session<'a, W> {
         Ok(None)
     }
 
-    // One match, and no closure in the place of each step: which steps there are is for the reader of lines to say, and plainer so.
+    // Does a step. A refusal is an answer; want of memory, and output that fails, end the program.
     fn obey(&mut self, log: &mut WordLog<'_>, step: Step<'_>) -> anyhow::Result<()> {
+        match self.take(log, step) {
+            Err(Trouble::Log(Failure::Declined(fault))) => Ok(self.decline(fault)?),
+            Err(Trouble::Log(e)) => Err(e.into()),
+            Err(Trouble::Output(e)) => Err(e.into()),
+            Ok(()) => Ok(()),
+        }
+    }
+
+    // One match, and no closure in the place of each step: which steps there are is for the reader of lines to say, and plainer so.
+    fn take(&mut self, log: &mut WordLog<'_>, step: Step<'_>) -> Result<(), Trouble> {
         match step {
             Step::Name { path } => self.name(log, path),
             Step::Write { row, offset, text } => self.write(log, row, offset, text),
@@ -97,14 +132,10 @@ impl<'a, W: Write> Session<'a, W> {
         }
     }
 
-    fn name(&mut self, log: &mut WordLog<'_>, path: &[u8]) -> anyhow::Result<()> {
-        match log.name(path) {
-            Ok(row) => {
-                write!(self.out, "row {row}: ")?;
-                Ok(self.say(path)?)
-            }
-            Err(e) => Ok(self.decline(e)?),
-        }
+    fn name(&mut self, log: &mut WordLog<'_>, path: &[u8]) -> Result<(), Trouble> {
+        let row = log.name(path)?;
+        write!(self.out, "row {row}: ")?;
+        Ok(self.say(path)?)
     }
 
     fn write(
@@ -113,19 +144,16 @@ impl<'a, W: Write> Session<'a, W> {
         row: u64,
         offset: u64,
         text: &[u8],
-    ) -> anyhow::Result<()> {
-        match log.write(self.heap, row, offset, text) {
-            Ok(Some(laid)) => {
-                writeln!(
-                    self.out,
-                    "write: position {}, entries {}",
-                    laid.position, laid.entries
-                )?;
-                Ok(())
-            }
-            Ok(None) => Ok(self.say(b"write: nothing")?),
-            Err(e) => self.fail(e),
+    ) -> Result<(), Trouble> {
+        match log.write(self.heap, row, offset, text)? {
+            Some(laid) => writeln!(
+                self.out,
+                "write: position {}, entries {}",
+                laid.position, laid.entries
+            )?,
+            None => self.say(b"write: nothing")?,
         }
+        Ok(())
     }
 
     fn show_words(
@@ -133,35 +161,26 @@ impl<'a, W: Write> Session<'a, W> {
         log: &mut WordLog<'_>,
         from: usize,
         count: usize,
-    ) -> anyhow::Result<()> {
-        match log.copy(self.heap, from, count) {
-            Ok(words) => {
-                for (i, word) in words.iter().enumerate() {
-                    writeln!(self.out, "word {}: {word}", from.saturating_add(i))?;
-                }
-                Ok(())
-            }
-            Err(e) => self.fail(e),
+    ) -> Result<(), Trouble> {
+        let words = log.copy(self.heap, from, count)?;
+        for (i, word) in words.iter().enumerate() {
+            writeln!(self.out, "word {}: {word}", from.saturating_add(i))?;
         }
+        Ok(())
     }
 
-    fn show_writes(&mut self, log: &mut WordLog<'_>) -> anyhow::Result<()> {
-        match self.found_writes(log) {
-            Ok(writes) => {
-                for found in writes.iter() {
-                    write!(
-                        self.out,
-                        "row {}, offset {}, {} bytes: ",
-                        found.row,
-                        found.offset,
-                        found.bytes.len()
-                    )?;
-                    self.say(found.bytes.as_slice())?;
-                }
-                Ok(())
-            }
-            Err(e) => self.fail(e),
+    fn show_writes(&mut self, log: &mut WordLog<'_>) -> Result<(), Trouble> {
+        for found in self.found_writes(log)?.iter() {
+            write!(
+                self.out,
+                "row {}, offset {}, {} bytes: ",
+                found.row,
+                found.offset,
+                found.bytes.len()
+            )?;
+            self.say(found.bytes.as_slice())?;
         }
+        Ok(())
     }
 
     // The writes that stand in the words of a log.
@@ -174,14 +193,6 @@ impl<'a, W: Write> Session<'a, W> {
     fn unreadable(&mut self, line: &[u8]) -> io::Result<()> {
         self.out.write_all(b"unreadable: ")?;
         self.say(line)
-    }
-
-    // A refusal is an answer; want of memory ends the program.
-    fn fail(&mut self, e: Failure) -> anyhow::Result<()> {
-        match e {
-            Failure::Declined(fault) => Ok(self.decline(fault)?),
-            Failure::NoMemory => Err(e.into()),
-        }
     }
 
     // Three numbers, which an answer of the program is made of: a fault is shown with words besides.

@@ -16,4 +16,4 @@ returns-clause-bytes c =
     let is = record_slice im.bytes.items im.limit im.shape r c.requires.low _ c.deref_mut.ensures.value in
     let long = length-labelled rec path (omega (arith, length-record_at im.bytes.items im.limit r, c.requires.short, im.shape.least)) ∙ length-record_at im.bytes.items im.limit r in
     let new = put_mid-paste 1 _ _ _ path (length path) c.copy_from_slice.ensures.after (omega arith) refl ∙ ap (λ xs. labelled xs path) is in
-    put_record im.bytes.items im.limit im.shape r c.requires.low (labelled rec path) long im.bytes _ _ refl c.deref_mut.ensures.value new
+    rw (c.span-span.ensures.start, c.span-span.ensures.end) (put_record im.bytes.items im.limit im.shape r c.requires.low (labelled rec path) long im.bytes _ _ refl c.deref_mut.ensures.value new)

@@ -25,4 +25,4 @@ returns-clause-bytes c =
     put_mid-paste 33 4 _ _ (number_bytes size) 4 four refl refl
     ∙ ap (λ xs. paste xs 33 (number_bytes size) 4) (put_mid-paste (64 + at) _ _ _ ds (length ds) c.copy_from_slice.ensures.after (omega arith) refl ∙ ap (λ xs. paste xs (64 + at) ds (length ds)) is) in
     let e = put_record im.bytes.items im.limit im.shape r c.requires.low (stored rec at ds) long im.bytes _ _ refl c.deref_mut.ensures.value new in
-    e ∙ sym (cond-false (eqb (length ds) 0) _ _ (sym c.if-is_empty.ensures))
+    rw (c.span-span.ensures.start, c.span-span.ensures.end) (e ∙ sym (cond-false (eqb (length ds) 0) _ _ (sym c.if-is_empty.ensures)))

@@ -2,20 +2,7 @@ use Rattle.std.proofs.Common.{◌≡◌, length, replicate, Ok, sym, refl, ap, �
 use Rattle.std.proofs.lemmas.Bool.{cond-true}
 use Rattle.layout.specs.Places.{width_of, header_words, empty_words}
 use Rattle.nvlog.proofs.Fresh.{header_room, fresh_words, fresh_length}
-use Rattle.nvlog.proofs.Ending.{not_dark}
 use Rattle.nvlog.proofs.word_log.Circle.format.Goals as goal
-
-pub returns-in_err-clear_all : goal.returns-in_err-clear_all
-returns-in_err-clear_all c =
-    not_dark _ c.in_err-clear_all.field-0.0 (c.in_err-clear_all.ensures c.args.memory.now.words.now refl).failed
-
-pub returns-in_err-put_run : goal.returns-in_err-put_run
-returns-in_err-put_run c =
-    let W = c.args.memory.now.words.now in
-    let counted = c.in_ok-entries.ensures in
-    let is : length W ≡ width_of c.args.n = sym c.width-width.ensures ∙ c.if-width.false ∙ c.width.ensures ∙ ap width_of counted.1 in
-    let room = header_room c.args.n (length W) c.header.result is (c.header.ensures ∙ ap header_words counted.1) in
-    not_dark _ c.in_err-put_run.field-0.0 (c.in_err-put_run.ensures.put (replicate (length W) 0) (c.in_ok-clear_all.ensures W refl) room).failed
 
 pub returns : goal.returns
 returns c =
