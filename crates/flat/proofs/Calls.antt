@@ -20,7 +20,7 @@ use Rattle.flat.specs.Searches.{how_many}
 use Rattle.flat.specs.Shelves.{flat, Live}
 use Rattle.flat.specs.Soundness.{FitImage, fit_image, one_record, slot_is, slotted}
 
-same_file : (o : Option File) → Both Same o o
+pub same_file : (o : Option File) → Both Same o o
 same_file None = tt
 same_file (Some f) = record { bytes = refl; sure = refl; loose = λ i. refl }
 
@@ -32,7 +32,7 @@ module _ (im : List ℕ) (L : ℕ) (opened : List Bool) (ok : is_some (unfit_at 
   fit : FitImage im L
   fit = fit_image im L ok
 
-  kept : Kept (flat im L opened) (flat im L opened)
+  pub kept : Kept (flat im L opened) (flat im L opened)
   kept = record { steady = record { lit = refl; lit_after = refl; limit = refl; count = refl; handle = λ h. refl }; files = λ p. same_file ((flat im L opened).file p) }
 
   -- the size of a record's file
@@ -42,13 +42,13 @@ module _ (im : List ℕ) (L : ℕ) (opened : List Bool) (ok : is_some (unfit_at 
       ∙ ap Some (length_part (record_at im L r) 64 (size_of (record_at im L r)))
 
   module _ (h : ℕ) (is_open : get_or opened h false ≡ true) where
-    open_low : h < 16
+    pub open_low : h < 16
     open_low = grind (arith, common_steps, live.0, get_or_past opened h false)
 
-    file_there : (flat im L opened).file (path_of (record_at im L h)) ≡ Some (firm (content_of (record_at im L h)))
+    pub file_there : (flat im L opened).file (path_of (record_at im L h)) ≡ Some (firm (content_of (record_at im L h)))
     file_there = ap (option_map (file_in im L)) (slot_is im L fit (path_of (record_at im L h)) h open_low (live.1 h is_open) refl)
 
-    abbrev reached : Reached (flat im L opened) h
+    abbrev pub reached : Reached (flat im L opened) h
     reached = record { path = path_of (record_at im L h); file = firm (content_of (record_at im L h)); named = cond-true (get_or opened h false) _ _ is_open; there = file_there }
 
     pub measured : (n : ℕ) → n ≡ size_of (record_at im L h) → Measured (flat im L opened) h n (flat im L opened)
@@ -143,6 +143,9 @@ module _ (im : List ℕ) (L : ℕ) (opened : List Bool) (ok : is_some (unfit_at 
     pub new_slot : slot (replaced im L r (labelled (record_at im L r) p)) L p 16 ≡ Some r
     new_slot = slot_here im L fit r chosen.low _ p [] filed lone
 
+    not_open : get_or opened r false ≡ false
+    not_open = ⊎_elim (λ t. absurd (both_ways (taken (record_at im L r)) free (live.1 r t))) (λ f. f) (cases_Bool (get_or opened r false))
+
     pub new_opens : Opens (flat im L opened) p r (flat (replaced im L r (labelled (record_at im L r) p)) L (set opened r true))
     new_opens = record {
       path = good;
@@ -159,7 +162,13 @@ module _ (im : List ℕ) (L : ℕ) (opened : List Bool) (ok : is_some (unfit_at 
 
   -- data is written to an open file
   module _ (h : ℕ) (is_open : get_or opened h false ≡ true) (at : ℕ) (ds : List ℕ) (inside : at + length ds ≤ L) where
-    put_nothing : length ds ≡ 0 → Put (flat im L opened) h at ds (flat im L opened)
+    used : taken (record_at im L h) ≡ true
+    used = live.1 h is_open
+
+    low : h < 16
+    low = open_low h is_open
+
+    pub put_nothing : length ds ≡ 0 → Put (flat im L opened) h at ds (flat im L opened)
     put_nothing e =
         let B : Option File → Type 0 = λ o. Both (LooseChoice at ds) o o in
         record {
@@ -172,12 +181,6 @@ module _ (im : List ℕ) (L : ℕ) (opened : List Bool) (ok : is_some (unfit_at 
         }
 
     module _ (some : 0 < length ds) where
-      used : taken (record_at im L h) ≡ true
-      used = live.1 h is_open
-
-      low : h < 16
-      low = open_low h is_open
-
       abbrev put : List ℕ
       put = replaced im L h (stored (record_at im L h) at ds)
 
@@ -204,7 +207,7 @@ module _ (im : List ℕ) (L : ℕ) (opened : List Bool) (ok : is_some (unfit_at 
       put_other : (q : Path) → (q ≡ path_of (record_at im L h) → ⊥) → (flat put L opened).file q ≡ (flat im L opened).file q
       put_other q ne = file_same im L fit h low _ _ _ put_filed put_lone q ne (not_holds q (record_at im L h) (λ t e. ne (sym e)))
 
-      put_some : Put (flat im L opened) h at ds (flat put L opened)
+      pub put_some : Put (flat im L opened) h at ds (flat put L opened)
       put_some =
           let c = content_of (record_at im L h) in
           let B : Option File → Type 0 = λ o. Both (LooseChoice at ds) ((flat im L opened).file (path_of (record_at im L h))) o in
@@ -235,7 +238,7 @@ module _ (im : List ℕ) (L : ℕ) (opened : List Bool) (ok : is_some (unfit_at 
             let ne = eqb-false (length ds) 0 t in
             let some : 0 < length ds = omega arith in
             subst Putting (sym (cond-false (eqb (length ds) 0) _ _ t)) (record {
-              whole = fit_from _ L (fit_replaced im L fit h (low some) _ _ _ (put_filed some) (put_lone some));
+              whole = fit_from _ L (fit_replaced im L fit h low _ _ _ (put_filed some) (put_lone some));
               flags = (live.0, λ k o. taken_stay some k ∙ live.1 k o);
               wrote = put_some some;
             })

@@ -17,7 +17,7 @@ use Rattle.flat.specs.Images.{Shape, start, record_at, replaced}
 use Rattle.flat.specs.Records.{number_bytes, size_of, labelled, stored}
 
 -- a record ends where the next begins, or before
-record_after : (L q r : ℕ) → q < r → start L q + (64 + L) ≤ start L r
+pub record_after : (L q r : ℕ) → q < r → start L q + (64 + L) ≤ start L r
 record_after L q r h = grind (arith, common_steps, mul-le (q + 1) (64 + L) r (64 + L))
 
 pub byte_record : (im : List ℕ) (L r k : ℕ) → k < 64 + L → byte (record_at im L r) k ≡ byte im (start L r + k)
@@ -25,7 +25,7 @@ unfolding record_at
 byte_record im L r k h = byte-part im (start L r) (64 + L) k h
 
 module _ (im : List ℕ) (L : ℕ) (shape : Shape im L) (r : ℕ) (low : r < 16) where
-  record_within : start L r + (64 + L) ≤ length im
+  pub record_within : start L r + (64 + L) ≤ length im
   record_within = omega (arith, record_after L r 16 low, shape.long)
 
   -- a record, as a slice of the image gives it

@@ -21,6 +21,9 @@ use Rattle.flat.specs.Soundness.{FitImage}
 everywhere : {X : Type 0} (n k : ℕ) (x : X) → get_or (replicate n x) k x ≡ x
 everywhere n k x = grind (arith, common_steps, get_or-replicate n k x x, get_or_past (replicate n x) k x, length-replicate n x)
 
+pub none_opened : (h : ℕ) → get_or none_open h false ≡ false
+none_opened h = everywhere 16 h false
+
 pub live_none : (im : List ℕ) (L : ℕ) → Live none_open im L
 live_none im L = (refl, λ h e. grind (arith, common_steps, everywhere 16 h false))
 
@@ -34,7 +37,7 @@ module _ (L : ℕ) where
   not_taken : (r : ℕ) → taken (record_at zeros L r) ≡ false
   not_taken r = grind (arith, common_steps, zero_byte r 0)
 
-  zeros_fit : limit_fits L ≡ true → FitImage zeros L
+  pub zeros_fit : limit_fits L ≡ true → FitImage zeros L
   unfolding record_fits
   zeros_fit good = record {
     limit = good;

@@ -21,16 +21,16 @@ module _ (rec : List ℕ) (long : 576 ≤ length rec) (free : taken rec ≡ fals
   unfolding record_fits
   after k h l = labelled_after rec p room k h ∙ blank_at rec 0 (length rec) (grind (arith, common_steps)) k (omega arith) l
 
-  label_path : path_of (labelled rec p) ≡ p
+  pub label_path : path_of (labelled rec p) ≡ p
   label_path = sym (part_is (labelled rec p) 1 (path_length (labelled rec p)) p (grind (arith, labelled_first rec p room)) (λ k l. grind (arith, labelled_path rec p room k, labelled_first rec p room)))
 
-  label_taken : taken (labelled rec p) ≡ true
+  pub label_taken : taken (labelled rec p) ≡ true
   label_taken = grind (arith, common_steps, labelled_first rec p room, (path_parts p good).0)
 
   label_size : size_of (labelled rec p) ≡ 0
   label_size = omega (arith, (path_parts p good).1, after 33, after 34, after 35, after 36)
 
-  label_fits : record_fits (labelled rec p) ≡ true
+  pub label_fits : record_fits (labelled rec p) ≡ true
   label_fits =
       let new = labelled rec p in
       let s = (path_parts p good).1 in

@@ -1,9 +1,11 @@
 pub mod Slices
+pub mod Checking
 pub mod Edits
 pub mod Blanks
 pub mod Labelling
 pub mod Storing
 pub mod Replacing
+pub mod Replaced
 pub mod Calls
 pub mod Emptying
 pub mod Finding

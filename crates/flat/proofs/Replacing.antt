@@ -1,5 +1,5 @@
 -- An image in which one record is replaced: it stays fit, and the files of other records stay.
-use Rattle.std.proofs.Common.{◌≡◌, ℕ, ◌+◌, ◌<◌, true, false, List, length, is_some, Some, None, Option, refl, ap, ◌∙◌, arith}
+use Rattle.std.proofs.Common.{◌≡◌, ℕ, ◌+◌, ◌<◌, true, false, List, length, is_some, Some, None, Option, sym, refl, ap, ◌∙◌, subst, arith}
 use Rattle.std.proofs.lemmas.Bool.{both_ways}
 use Rattle.std.proofs.lemmas.Grind.{common_steps}
 use Rattle.std.specs.Option.{option_map}
@@ -7,11 +7,11 @@ use Rattle.device.proofs.Writing.{length_part}
 use Rattle.device.specs.Files.{File, firm}
 use Rattle.device.specs.Paths.{Path}
 use Rattle.flat.proofs.Edits.{length-replaced, replaced_there, replaced_elsewhere}
-use Rattle.flat.specs.Images.{record_at, slot, bad, unfit_at, replaced}
+use Rattle.flat.specs.Images.{Shape, record_at, slot, bad, unfit_at, replaced}
 use Rattle.flat.specs.RecordLaws.{holds_own, holds_parts}
 use Rattle.flat.specs.Records.{path_length, path_of, content_of, taken, holds, record_fits}
 use Rattle.flat.specs.SearchLaws.{first_none, first_same, found_by_first}
-use Rattle.flat.specs.Soundness.{FitImage, slot_is}
+use Rattle.flat.specs.Soundness.{FitImage, fit_image, slot_is}
 
 -- a record with the path of one that is taken is taken
 taken_by : (rec other : List ℕ) → taken rec ≡ true → path_of rec ≡ path_of other → taken other ≡ true
@@ -97,3 +97,7 @@ module _ (im : List ℕ) (L : ℕ) (fit : FitImage im L) (r : ℕ) (low : r < 16
 
     pub file_same : option_map (file_in (replaced im L r rec) L) (slot (replaced im L r rec) L q 16) ≡ option_map (file_in im L) (slot im L q 16)
     file_same = ap (option_map (file_in (replaced im L r rec) L)) slot_same ∙ content_same (slot im L q 16) refl
+
+-- a slice of the whole image has its shape
+pub shape_of : (im xs : List ℕ) (L : ℕ) → is_some (unfit_at im L) ≡ false → xs ≡ im → Shape xs L
+shape_of im xs L fit e = subst (λ ys. Shape ys L) (sym e) (fit_image im L fit).shape

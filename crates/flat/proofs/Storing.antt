@@ -39,15 +39,15 @@ module _ (rec : List ℕ) (few : length rec ≤ 2097216) (used : taken rec ≡ t
       let back = number_back n (omega (arith, old.size)) in
       omega arith
 
-  store_taken : taken (stored rec at ds) ≡ true
+  pub store_taken : taken (stored rec at ds) ≡ true
   store_taken = grind (arith, common_steps, head_same 0)
 
-  store_path : path_of (stored rec at ds) ≡ path_of rec
+  pub store_path : path_of (stored rec at ds) ≡ path_of rec
   store_path =
       sym (part_is (stored rec at ds) 1 (path_length (stored rec at ds)) (path_of rec) (grind (arith, length_part rec 1 (path_length rec), head_same 0))
       (λ k l. grind (arith, byte-part rec 1 (path_length rec) k, head_same 0, head_same (1 + k), old.few)))
 
-  store_content : content_of (stored rec at ds) ≡ written (content_of rec) at ds
+  pub store_content : content_of (stored rec at ds) ≡ written (content_of rec) at ds
   store_content =
       let new = stored rec at ds in
       let long = length_part rec 64 (size_of rec) in
@@ -69,7 +69,7 @@ module _ (rec : List ℕ) (few : length rec ≤ 2097216) (used : taken rec ≡ t
           (cases_lt k (at + length ds)))
           (cases_lt k at)
 
-  store_fits : record_fits (stored rec at ds) ≡ true
+  pub store_fits : record_fits (stored rec at ds) ≡ true
   store_fits =
       let new = stored rec at ds in
       let o = old in

@@ -1,13 +1,14 @@
 -- The entries of a group.
-use Rattle.std.proofs.Common.{◌≡◌, ℕ, zero, suc, ◌+◌, ◌*◌, ◌<◌, ◌≤◌, true, false, eqb, leb, List, [], ◌∷◌, ◌++◌, map, length, get_or, take, drop, Some, None, sym, refl, ap, ◌∙◌, subst, ⊎_elim, add-zero, add_comm, zero-add, mul-suc, add-one, arith}
+use Rattle.std.proofs.Common.{◌≡◌, ℕ, zero, suc, ◌+◌, ◌*◌, ◌<◌, ◌≤◌, true, false, eqb, ltb, leb, List, [], ◌∷◌, ◌++◌, map, length, get_or, take, drop, Some, None, sym, refl, ap, ◌∙◌, subst, ⊎_elim, add-zero, add_comm, zero-add, mul-suc, add-one, arith}
 use Rattle.std.specs.List.{range_with_len, flat_map}
 use Rattle.std.specs.Option.{option_map}
 use Rattle.std.proofs.lemmas.List.{length-map, get_or-map, flat_map_more, take_at, drop_at, drop-drop, drop_all, drop_more, map-id}
 use Rattle.std.proofs.lemmas.List.FromFn.{map-range_with_len_more}
-use Rattle.std.proofs.lemmas.Bool.{and_from, and_left, and_right, cond-true, cond-false, le-leb, eq-eqb, cases_lt}
+use Rattle.std.proofs.lemmas.Bool.{and_from, and_left, and_right, cond-true, cond-false, lt-leb, le-leb, le-ltb, lt-ltb, eq-eqb, cases_lt, and_parts, and_cases, both_ways}
 use Rattle.layout.specs.declared.entries.Piece.{Piece as Given}
-use Rattle.layout.specs.Entries.{Group, no_piece, plain, entry_fits, entry_words, entry_of, group_of, read_entry}
+use Rattle.layout.specs.Entries.{Group, Entry, no_piece, plain, entry_fits, entry_words, entry_of, entry_words_of, group_of, read_entry}
 use Rattle.layout.specs.Marks.{mark_of}
+use Rattle.layout.proofs.Tellings.{cond_some, cond_none}
 use Rattle.layout.specs.Groups.{words_upto, group_words, fit_upto, one_more, pieces_from, group_after, read_group, in_a_row}
 use Rattle.layout.proofs.Reading.{length-entry_words}
 
@@ -17,6 +18,21 @@ module _ (row d : ℕ) (ps : List Given) where
       let marks : mark_of (length (map plain ps)) d ≡ m = ap (λ k. mark_of k d) (length-map ps plain) ∙ sym e in
       let same : get_or (map plain ps) d no_piece ≡ plain (get_or ps d z) = get_or-map plain ps d z no_piece h in
       λ i. record { mark = marks i; row = row; offset = (same i).offset; bytes = (same i).bytes }
+
+  pub no_words_many : 8 < length ps → None ≡ entry_words_of (group_of row ps) d
+  no_words_many h = sym (cond-false _ _ _ (and_left (leb (length (map plain ps)) 8) _ (lt-leb (length (map plain ps)) 8 (omega (arith, length-map ps plain)))))
+
+  pub no_words_past : length ps ≤ d → None ≡ entry_words_of (group_of row ps) d
+  no_words_past h = sym (cond-false _ _ _ (and_right (leb (length (map plain ps)) 8) _ (and_left (ltb d (length (map plain ps))) _ (le-ltb d (length (map plain ps)) (omega (arith, length-map ps plain))))))
+
+  pub no_words_unfit : (e : Entry) → entry_of (group_of row ps) d ≡ e → entry_fits e ≡ false → None ≡ entry_words_of (group_of row ps) d
+  no_words_unfit e is f = sym (cond-false _ _ _ (and_right (leb (length (map plain ps)) 8) _ (and_right (ltb d (length (map plain ps))) _ (ap entry_fits is ∙ f))))
+
+  pub words_given : (e : Entry) → entry_of (group_of row ps) d ≡ e → length ps ≤ 8 → d < length ps → entry_fits e ≡ true → Some (entry_words e) ≡ entry_words_of (group_of row ps) d
+  words_given e is few h f =
+      let long = length-map ps plain in
+      ap (λ x. Some (entry_words x)) (sym is)
+      ∙ sym (cond-true _ _ _ (and_from (leb (length (map plain ps)) 8) _ (le-leb (length (map plain ps)) 8 (omega arith)) (and_from (ltb d (length (map plain ps))) _ (lt-ltb d (length (map plain ps)) (omega arith)) (ap entry_fits is ∙ f))))
 
 -- a group's words entry after entry, and reading them back
 
@@ -79,8 +95,27 @@ module _ (g : Group) (at : ℕ → List ℕ) (each : (d : ℕ) → d < length g.
       ∙ cond-true _ _ _ (le-leb (length g.pieces) 8 few)
       ∙ ap (option_map (λ ps. record { row = g.row; pieces = ps })) (pieces_back (length g.pieces) 0 (zero-add (length g.pieces)))
 
+-- what the answer for one entry tells
+module _ (g : Group) (d : ℕ) where
+  pub entry_told : (ws : List ℕ) → Some ws ≡ entry_words_of g d → (entry_fits (entry_of g d) ≡ true) × (ws ≡ entry_words (entry_of g d))
+  entry_told ws h =
+      let told = cond_some _ ws (entry_words (entry_of g d)) h in
+      ((and_parts (ltb d (length g.pieces)) _ (and_parts (leb (length g.pieces) 8) _ told.0).1).1, told.1)
+
+  pub no_entry_told : length g.pieces ≤ 8 → d < length g.pieces → None ≡ entry_words_of g d → entry_fits (entry_of g d) ≡ false
+  no_entry_told few h e =
+      ⊎_elim (λ f. absurd (both_ways _ f (le-leb (length g.pieces) 8 few)))
+      (λ f. ⊎_elim (λ l. absurd (both_ways _ l (lt-ltb d (length g.pieces) h))) (λ u. u) (and_cases (ltb d (length g.pieces)) _ f))
+      (and_cases (leb (length g.pieces) 8) _ (cond_none _ (entry_words (entry_of g d)) e))
+
 -- when a group has words
 module _ (g : Group) where
+  pub no_group_none : length g.pieces ≡ 0 → None ≡ group_words g
+  no_group_none h = sym (cond-false _ _ _ (and_left (leb 1 (length g.pieces)) _ (lt-leb 1 (length g.pieces) (omega arith))))
+
+  pub no_group_many : 8 < length g.pieces → None ≡ group_words g
+  no_group_many h = sym (cond-false _ _ _ (and_right (leb 1 (length g.pieces)) _ (and_left (leb (length g.pieces) 8) _ (lt-leb (length g.pieces) 8 h))))
+
   pub no_group_unfit : fit_upto g (length g.pieces) ≡ false → None ≡ group_words g
   no_group_unfit h = sym (cond-false _ _ _ (and_right (leb 1 (length g.pieces)) _ (and_right (leb (length g.pieces) 8) _ h)))
 

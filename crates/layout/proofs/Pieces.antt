@@ -1,14 +1,15 @@
 -- The pieces of a write.
-use Rattle.std.proofs.Common.{◌≡◌, ℕ, zero, suc, ◌+◌, ◌-◌, ◌*◌, ◌^◌, ◌<◌, ◌≤◌, min, true, ltb, leb, List, [], ◌++◌, map, length, get_or, take, drop, Ok, sym, refl, ap, ◌∙◌, ⊎_elim, add-one, arith, length-take, take-add}
+use Rattle.std.proofs.Common.{◌≡◌, ℕ, zero, suc, ◌+◌, ◌-◌, ◌*◌, ◌^◌, ◌<◌, ◌≤◌, min, true, ltb, leb, ◌⊎◌, List, [], ◌++◌, map, length, get_or, take, drop, Some, None, Ok, sym, refl, ap, ◌∙◌, inl, inr, ⊎_elim, add-one, arith, length-take, take-add}
 use Rattle.std.specs.List.{range_with_len, flat_map}
 use Rattle.std.proofs.lemmas.List.{take_all, take_at, drop_at, drop_all, drop-drop, flat_map_more, length-drop}
 use Rattle.std.proofs.lemmas.List.FromFn.{map-range_with_len_more, length-map-range_with_len, get_or-map-range_with_len}
-use Rattle.std.proofs.lemmas.Bool.{and_from, le-leb, lt-ltb, cases_lt}
+use Rattle.std.proofs.lemmas.Bool.{and_parts, and_cases, and_from, ltb-true, ltb-false, le-leb, lt-ltb, cases_lt}
 use Rattle.std.proofs.lemmas.Bool.Decides.{nat_tests}
 use Rattle.layout.specs.Entries.{Piece, Group, no_piece, piece_fits, entry_fits, entry_of}
 use Rattle.layout.specs.Marks.{mark_of, is_mark}
 use Rattle.layout.specs.Groups.{fit_upto, group_fits}
-use Rattle.layout.specs.Writes.{entries_for, write_for, piece_of, split_of}
+use Rattle.layout.proofs.Tellings.{cond_some, cond_none}
+use Rattle.layout.specs.Writes.{entries_for, write_for, piece_of, piece_for, split_of}
 
 -- the first d pieces joined are the first bytes of the write
 pub joined_upto : (offset : ℕ) (bs : List ℕ) (d : ℕ) → flat_map (λ p. p.bytes) (map (piece_of offset bs) (range_with_len 0 d)) ≡ take (512 * d) bs
@@ -42,10 +43,25 @@ chunk_taken n a xs x more is long =
     (λ many. (let all : length x ≡ n = omega arith in (front ∙ ap (λ k. take k rest) all, back ∙ ap (λ k. drop k rest) all ∙ drop-drop n a xs)))
     (cases_lt (length rest) n)
 
+-- what an answer of the definition tells
+module _ (offset : ℕ) (bs : List ℕ) (d : ℕ) where
+  pub piece_given : (p : Piece) → Some p ≡ piece_for offset bs d → (p ≡ piece_of offset bs d) × (d < entries_for (length bs))
+  piece_given p h =
+      let told = cond_some _ p (piece_of offset bs d) h in
+      (told.1, ltb-true d (entries_for (length bs)) (and_parts (ltb d (entries_for (length bs))) _ told.0).0)
+
+  pub no_piece_given : None ≡ piece_for offset bs d → (entries_for (length bs) ≤ d) ⊎ (2 ^ 64 ≤ offset + 512 * d)
+  no_piece_given h =
+      ⊎_elim (λ x. inl (ltb-false d (entries_for (length bs)) x)) (λ x. inr (ltb-false (offset + 512 * d) (2 ^ 64) x))
+      (and_cases (ltb d (entries_for (length bs))) _ (cond_none _ (piece_of offset bs d) h))
+
 -- a write that is taken ends below 2 ^ 64, and so does each piece's offset
 module _ (limit offset n k : ℕ) (small : limit < 2 ^ 64) (taken : Ok k ≡ write_for limit offset n) where
   pub taken_count : k ≡ entries_for n
   taken_count = grind (arith, nat_tests)
+
+  pub taken_offset : (d : ℕ) → d < entries_for n → offset + 512 * d < 2 ^ 64
+  taken_offset d h = grind (arith, nat_tests)
 
   pub taken_few : n ≤ 4096
   taken_few = grind (arith, nat_tests)

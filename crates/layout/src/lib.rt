@@ -21,7 +21,8 @@ pub use groups::group_words;
 pub use marks::{Mark, NoMark};
 pub use packing::{TooManyBytes, pack, unpack};
 pub use places::{
-    ENTRY_WORDS, FIRST_ENTRY, HEADER_WORDS, ROW_WORDS, ROWS, TAIL, log_width, row_start,
+    ENTRY_WORDS, FIRST_ENTRY, HEADER_WORDS, ROW_WORDS, ROWS, TAIL, entry_start, header, log_width,
+    row_start,
 };
 pub use rows::{Name, read_row, row_words};
 pub use writes::{entries_for, piece_of, split};

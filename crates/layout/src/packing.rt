@@ -33,9 +33,15 @@ fn low_first_word(bytes: &[u8]) -> u64
 fn word_of(bytes: &[u8], j: usize) -> u64
     ensures { result ≡ packed_word bytes.now j }
 {
-    let from = j.saturating_mul(8).min(bytes.len());
-    let to = bytes.len().min(from + 8);
-    low_first_word(&bytes[from..to])
+    let from = j.saturating_mul(8);
+    if from >= bytes.len() {
+        return 0; // past the bytes, as most words of a short piece are
+    }
+    let rest = &bytes[from..];
+    match rest.first_chunk::<8>() {
+        Some(eight) => u64::from_le_bytes(*eight),
+        None => low_first_word(rest),
+    }
 }
 
 // Byte i of packed words; a byte past the last one counts as 0.

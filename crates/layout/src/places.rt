@@ -1,7 +1,7 @@
 // Where things stand in the words of a log: 8 header words, 16 rows of names, the tail, the entries.
 ghost use Rattle.std.specs.Prelude.{◌≡◌};
 ghost use Rattle.device.specs.Numbers.{answer};
-ghost use Rattle.layout.specs.Places.{width_for, row_for};
+ghost use Rattle.layout.specs.Places.{width_for, header_for, row_for, entry_for};
 
 use crate::counts::EntryCount;
 use device::Fault;
@@ -25,6 +25,13 @@ pub fn log_width(n: usize) -> Result<usize, Fault>
     Ok(EntryCount::try_from(n)?.width())
 }
 
+// Words 0 to 7 of a log of n entries; none where no log has so many.
+pub fn header(n: usize) -> Option<[u64; 8]>
+    ensures { result ≡ header_for n }
+{
+    Some(EntryCount::try_from(n).ok()?.header())
+}
+
 // The first word of a row of names.
 pub fn row_start(row: usize) -> Option<usize>
     ensures { result ≡ row_for row }
@@ -34,4 +41,11 @@ pub fn row_start(row: usize) -> Option<usize>
     } else {
         None
     }
+}
+
+// The first word of the entry d places after a position, round the circle of n; none where no log has n entries.
+pub fn entry_start(n: usize, position: usize, d: usize) -> Option<usize>
+    ensures { result ≡ entry_for n position d }
+{
+    EntryCount::try_from(n).ok()?.entry_start(position, d)
 }

@@ -1,16 +1,17 @@
 -- What a staged module answers, by its plan.
-use Rattle.std.proofs.Common.{◌≡◌, ℕ, true, false, not, eqb, List, sym, refl, ap, ◌∙◌, inl, inr, ⊎_elim, arith}
-use Rattle.std.proofs.lemmas.Bool.{cases_Bool, and_parts}
+use Rattle.std.proofs.Common.{◌≡◌, ℕ, true, false, not, eqb, List, ap, arith}
+use Rattle.std.proofs.lemmas.Bool.{and_parts}
 use Rattle.device.specs.Numbers.{number_of, Says}
 use Rattle.device.specs.ModuleCalls.{Failed, Declined, Done}
 use Rattle.device.specs.declared.Fault.{Fault}
+use Rattle.memory.proofs.Drawn as plans
 use Rattle.memory.specs.Plans.{Plan, used_up, lasts, drawn}
 use Rattle.memory.specs.Meanings.{plan, plan_of, staged, staged_of}
 use Rattle.memory.specs.declared.power.Power.{Power}
 use Rattle.memory.specs.declared.staged.Staged.{Staged}
 
 -- power that lasts was on
-was_on : (p : Plan) → true ≡ lasts p → p.on ≡ true
+pub was_on : (p : Plan) → true ≡ lasts p → p.on ≡ true
 was_on p l = grind (arith, and_parts p.on (not (used_up p.left)))
 
 -- a refusal says that power failed where its number is 22
@@ -20,20 +21,16 @@ says_failed e n i says = ap (λ t. eqb t.number 22) says
 -- a store or settle of the module s that leaves the power w, by what power does in it
 module _ (s : Staged) (w : Power) (after : plan w s.pattern ≡ drawn (plan_of s)) where
   on_after : w.on ≡ lasts (plan_of s)
-  on_after = ap (λ q. q.on) after
+  on_after = plans.on_after (plan_of s) (plan w s.pattern) s.current.now s.sure.now after
 
   -- it fails, or had failed before
   pub no_power : {e : Fault} {i : ℕ} {Effect : Type 0} → Says e 22 2 i → false ≡ lasts (plan_of s) → Failed (staged_of s) (staged_of (record s { power = w })) e i Effect
-  no_power says l = record {
-    says = says;
-    dark = on_after ∙ sym l;
-    cause = ⊎_elim (λ on. inr record { lit = on; words = inl record { current = refl; sure = refl } }) (λ was. inl record { dark = was; kept = record { current = refl; sure = refl } }) (cases_Bool s.power.on);
-  }
+  no_power {e = e} {i = i} {Effect = Effect} says l = plans.no_power (plan_of s) (plan w s.pattern) s.current.now s.sure.now after e i Effect says l
 
   -- it lasts, and the call is declined
   pub not_done : {e : Fault} {n i : ℕ} {Reason : Type 0} → Says e n 2 i → true ≡ lasts (plan_of s) → Reason → Declined (staged_of s) (staged_of (record s { power = w })) e n i Reason
-  not_done says l why = record { lit = was_on (plan_of s) l; lit_after = on_after ∙ sym l; reason = why; says = says; kept = record { current = refl; sure = refl } }
+  not_done {e = e} {n = n} {i = i} {Reason = Reason} says l why = plans.not_done (plan_of s) (plan w s.pattern) s.current.now s.sure.now after e n i Reason says l why
 
   -- it lasts, and the call is done, whatever the slices then hold
   pub done : (xs ys : List ℕ) {Asked Effect : Type 0} → true ≡ lasts (plan_of s) → Asked → Effect → Done (staged_of s) (staged (plan w s.pattern) xs ys) Asked Effect
-  done xs ys l asked effect = record { lit = was_on (plan_of s) l; lit_after = on_after ∙ sym l; asked = asked; effect = effect }
+  done xs ys {Asked = Asked} {Effect = Effect} l asked effect = plans.done (plan_of s) (plan w s.pattern) s.current.now s.sure.now after xs ys Asked Effect l asked effect

@@ -1,12 +1,11 @@
 -- What a store, a settle and a restart do to the part of two slices that both of them have.
-use Rattle.std.proofs.Common.{◌≡◌, ℕ, ◌+◌, ◌<◌, ◌≤◌, min, true, List, ◌++◌, length, take, drop, set, sym, refl, ap, ◌∙◌, arith, length-drop, zero-add, take-add, take-append-drop}
+use Rattle.std.proofs.Common.{◌≡◌, ℕ, zero, suc, ◌+◌, ◌-◌, ◌<◌, ◌≤◌, min, true, ◌⊎◌, List, [], ◌∷◌, ◌++◌, length, take, drop, set, sym, refl, ap, ◌∙◌, arith, length-drop, zero-add, take-add, take-append-drop}
 use lib.Seq.{paste}
-use Rattle.std.proofs.Math.Seq.{take-set-lt}
 use Rattle.std.proofs.lemmas.List.{get_or-take, get_or-drop, ext_get_or, length-take, length-set, length-take-le, take_at, length-append}
-use Rattle.std.proofs.lemmas.List.Edits.{length-paste, take-paste}
+use Rattle.std.proofs.lemmas.List.Edits.{length-paste, take-paste, paste_more}
 use Rattle.std.proofs.lemmas.List.FromFn.{fill_by_all, length-map-range_with_len}
-use Rattle.device.proofs.Pasted.{paste_before, paste_inside, paste_after}
-use Rattle.device.specs.Words.{resting}
+use Rattle.device.proofs.Pasted.{paste_before, paste_inside, paste_outside, paste_after}
+use Rattle.device.specs.Words.{word, resting}
 use Rattle.device.specs.ModuleCalls.{Firm}
 use Rattle.memory.specs.Plans.{Plan, found_at, found_words}
 use Rattle.memory.specs.Meanings.{staged, shorter}
@@ -18,15 +17,40 @@ paste_same W i c = sym (ap (λ l. l ++ drop (i + c) W) (sym (take-add i c W)) �
 pub shorter_long : (xs ys : List ℕ) → length (take (shorter xs ys) xs) ≡ shorter xs ys
 shorter_long xs ys = length-take-le (shorter xs ys) xs (omega arith)
 
+take-set : (n : ℕ) (xs : List ℕ) (i v : ℕ) → take n (set xs i v) ≡ set (take n xs) i v
+take-set zero xs i v = refl
+take-set (suc n) [] i v = refl
+take-set (suc n) (x ∷ xs) zero v = refl
+take-set (suc n) (x ∷ xs) (suc i) v = ap (λ l. x ∷ l) (take-set n xs i v)
+
 module _ (xs ys : List ℕ) (i v : ℕ) where
   same_width : shorter (set xs i v) ys ≡ shorter xs ys
   same_width = ap (λ n. min n (length ys)) (length-set xs i v)
 
-  pub stored_current : i < shorter xs ys → take (shorter (set xs i v) ys) (set xs i v) ≡ set (take (shorter xs ys) xs) i v
-  stored_current lt = ap (λ n. take n (set xs i v)) same_width ∙ take-set-lt (shorter xs ys) xs i v lt
+  pub stored_current : take (shorter (set xs i v) ys) (set xs i v) ≡ set (take (shorter xs ys) xs) i v
+  stored_current = ap (λ n. take n (set xs i v)) same_width ∙ take-set (shorter xs ys) xs i v
 
   pub stored_sure : take (shorter (set xs i v) ys) ys ≡ take (shorter xs ys) ys
   stored_sure = ap (λ n. take n ys) same_width
+
+-- the run of one list from i on, pasted into another
+module _ (xs ys : List ℕ) (i c : ℕ) (hx : i + c ≤ length xs) (hy : i + c ≤ length ys) where
+  enough : c ≤ length (drop i xs)
+  enough = omega (arith, length-drop i xs)
+
+  run_inside : (k : ℕ) → i ≤ k → k < i + c → word (paste ys i (drop i xs) c) k ≡ word xs k
+  run_inside k a b = paste_inside ys i (drop i xs) c hy enough k a b ∙ get_or-drop i xs (k - i) 0 ∙ ap (word xs) (omega arith)
+
+  run_outside : (k : ℕ) → (k < i) ⊎ (i + c ≤ k) → word (paste ys i (drop i xs) c) k ≡ word ys k
+  run_outside k = paste_outside ys i (drop i xs) c hy enough k
+
+  pub run_long : length (paste ys i (drop i xs) c) ≡ length ys
+  run_long = length-paste ys i (drop i xs) c hy enough
+
+-- one word more of the run
+pub run_more : (xs ys : List ℕ) (i k : ℕ) → i + k < length xs → i + k < length ys → set (paste ys i (drop i xs) k) (i + k) (word xs (i + k)) ≡ paste ys i (drop i xs) (k + 1)
+run_more xs ys i k hx hy =
+    ap (set (paste ys i (drop i xs) k) (i + k)) (sym (get_or-drop i xs k 0)) ∙ paste_more ys i (drop i xs) k 0 hy (omega (arith, length-drop i xs))
 
 -- a run that is pasted within the first w words
 take_of_paste : (w : ℕ) (xs ys : List ℕ) (i c : ℕ) → i + c ≤ w → w ≤ length xs → w ≤ length ys → take w (paste ys i (drop i xs) c) ≡ paste (take w ys) i (drop i (take w xs)) c
@@ -46,7 +70,7 @@ copied p p' xs ys zs i c h ez =
     }
 
 -- words that are found where the current and the sure ones are the same
-found_same : (p : ℕ) (W : List ℕ) → found_words p W W ≡ W
+pub found_same : (p : ℕ) (W : List ℕ) → found_words p W W ≡ W
 found_same p W = sym (fill_by_all (found_at p W W) W (length W) 0 refl (λ k h. grind arith))
 
 -- a restart: what was found of the first w words becomes current, and then sure

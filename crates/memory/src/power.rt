@@ -44,10 +44,10 @@ impl Power {
         ensures declined { IfErr result (λ e. Says e 22 2 i) }
     {
         self.check(i)?;
-        let Some(left) = self.counts.get(self.life) else {
+        if self.life >= self.counts.len() {
             return Ok(()); // no life past the counts is cut
-        };
-        let Some(fewer) = left.checked_sub(1) else {
+        }
+        let Some(fewer) = self.counts[self.life].checked_sub(1) else {
             self.on = false;
             return self.check(i); // it fails now
         };

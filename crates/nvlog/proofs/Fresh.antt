@@ -1,9 +1,13 @@
 -- The words of an empty log.
-use Rattle.std.proofs.Common.{◌≡◌, ℕ, ◌+◌, ◌*◌, ◌≤◌, List, ◌∷◌, ◌++◌, length, drop, replicate, sym, refl, ap, ◌∙◌, arith}
+use Rattle.std.proofs.Common.{◌≡◌, ℕ, ◌+◌, ◌*◌, ◌≤◌, List, ◌∷◌, ◌++◌, length, drop, replicate, Ok, sym, refl, ap, ◌∙◌, arith}
 use lib.Seq.{paste}
 use Rattle.std.proofs.lemmas.List.Edits.{paste_all}
 use Rattle.std.proofs.lemmas.List.{drop_at, length-append, length-replicate, replicate-append-replicate}
-use Rattle.layout.specs.Places.{width_of, header_words, empty_words}
+use Rattle.layout.specs.Places.{width_of, width_for, header_words, empty_words}
+use Rattle.layout.proofs.Tellings.{cond_ok}
+
+pub width_is : (n w : ℕ) → Ok w ≡ width_for n → w ≡ width_of n
+width_is n w given = (cond_ok _ w (width_of n) _ given).1
 
 -- zeros for the rows, the tail and the entries
 zeros_apart : (n : ℕ) → replicate {A = ℕ} (81 + 68 * n) 0 ≡ replicate 80 0 ++ (0 ∷ replicate (68 * n) 0)

@@ -1,10 +1,10 @@
 -- A group laid out entry by entry.
-use Rattle.std.proofs.Common.{◌≡◌, ℕ, zero, suc, ◌+◌, ◌-◌, ◌*◌, ◌/◌, ◌%◌, ◌<◌, ◌≤◌, true, leb, List, map, length, IsErrAnd, Some, Ok, Err, vec_items, Option, Result, Vec, sym, refl, ap, ◌∙◌, subst, mod-lt, add-one, arith}
+use Rattle.std.proofs.Common.{◌≡◌, ℕ, zero, suc, ◌+◌, ◌-◌, ◌*◌, ◌/◌, ◌%◌, ◌<◌, ◌≤◌, true, ltb, leb, List, map, length, IsErrAnd, Some, Ok, Err, vec_items, Option, Result, Vec, sym, refl, ap, ◌∙◌, subst, ⊎_elim, mod-lt, add-one, arith}
 use lib.Seq.{paste}
 use Rattle.layout.specs.Places.{entry_at, width_of}
 use Rattle.std.proofs.lemmas.List.Edits.{length-paste}
 use Rattle.std.proofs.lemmas.List.{length-map, length-append, nil_from_length}
-use Rattle.std.proofs.lemmas.Bool.{and_parts, leb-true, lt-ltb, le-ltb, cond-true, cond-false}
+use Rattle.std.proofs.lemmas.Bool.{and_parts, leb-true, ltb-true, lt-ltb, le-ltb, cond-true, cond-false, cases_eq}
 use Rattle.std.specs.List.{flat_map}
 use Rattle.std.specs.Option.{option_map}
 use Rattle.std.specs.declared.alloc.Global.{Global}
@@ -15,12 +15,12 @@ use Rattle.device.specs.Numbers.{refusal, told}
 use Rattle.layout.specs.declared.entries.Piece.{Piece as Given}
 use Rattle.layout.specs.Entries.{Group, plain, group_of, entry_words, entry_of}
 use Rattle.layout.specs.Groups.{group_fits, group_words, words_upto, in_a_row, laid}
-use Rattle.layout.specs.Writes.{Cut, Split}
+use Rattle.layout.specs.Writes.{Cut, Split, write_for}
 use Rattle.layout.proofs.Reading.{length-entry_words}
 use Rattle.layout.proofs.Grouping.{in_a_row_is, words_upto_none, words_upto_more}
 use Rattle.layout.proofs.Tellings.{cond_some}
 use Rattle.nvlog.specs.Rows.{taken_row}
-use Rattle.nvlog.specs.States.{State}
+use Rattle.nvlog.specs.States.{State, Fit}
 use Rattle.nvlog.specs.Writes.{within, asked, after, LaidOut, Written}
 use Rattle.nvlog.specs.declared.word_log.Laid.{Laid as Place}
 
@@ -106,6 +106,16 @@ module _ (s : State) (row offset : ℕ) (bs : List ℕ) (ps : List Given) (named
   pub asked_too_much : (free : ℕ) → free ≡ s.entries - 1 - s.taken → free < length ps → asked s row offset (length bs) ≡ Err (refusal 12 1 free)
   asked_too_much free is few = asked_is ∙ cond-true _ _ _ (lt-ltb (s.entries - 1 - s.taken) (length ps) (omega arith)) ∙ ap (λ n. Err (refusal 12 1 n)) (sym is)
 
+  pub asked_some : 0 < length ps → 0 < length bs
+  asked_some some =
+      ⊎_elim
+      (λ none. let same : Ok (length ps) ≡ write_for 2097152 offset 0 = sym (cut.count ∙ ap (λ n. Ok n) long) ∙ ap (write_for 2097152 offset) none in let zero : length ps ≡ 0 = cc in absurd (omega arith))
+      (λ more. omega arith)
+      (cases_eq (length bs) 0)
+
+  pub group_is_fit : 0 < length ps → group_fits (group_of row ps) ≡ true
+  group_is_fit some = cut.fit row (ltb-true row 16 (and_parts (ltb row 16) _ named).0) (asked_some some) (omega arith)
+
   asked_laid : length ps + s.taken < s.entries → asked s row offset (length bs) ≡ Ok (length ps)
   asked_laid room = asked_is ∙ cond-false _ _ _ (le-ltb (s.entries - 1 - s.taken) (length ps) (omega arith))
 
@@ -116,6 +126,10 @@ module _ (s : State) (row offset : ℕ) (bs : List ℕ) (ps : List Given) (named
         done.0,
         done.2 ∙ ap (λ l. after s (record { row = row; pieces = l })) cut.pieces,
       )
+
+-- the log has as many words after a group as before it
+pub fit_after : (s s' : State) (g : Group) → 9 ≤ s.entries → Fit s → s' ≡ after s g → Fit s'
+fit_after s s' g least fit is = subst Fit (sym is) (laid_long s.entries s.head g s.words (length g.pieces) least fit ∙ fit)
 
 -- a write that is not cut into pieces
 pub written_declined : (s s' : State) (row offset : ℕ) (bs : List ℕ) (f : Failure) (r : Result (Option Place) Failure) → taken_row s.words row ≡ true → s' ≡ s → Split 2097152 offset bs (Err f) → IsErrAnd r (λ y. y ≡ f) → Written s row offset bs r s'

@@ -2,6 +2,7 @@
 use Rattle.std.proofs.Common.{◌≡◌, ℕ, ◌+◌, ◌<◌, ◌≤◌, Bool, true, false, not, ◌&&◌, eqb, ltb, List, length, get_or, take, drop, Some, None, Ok, Err, Option, sym, ap, ◌∙◌, subst, inl, inr, ⊎_elim, arith}
 use lib.Seq.{paste}
 use Rattle.std.proofs.lemmas.List.{length-take, length-drop, get_or-take, get_or-drop, ext_get_or}
+use Rattle.std.proofs.lemmas.List.Edits.{length-paste}
 use Rattle.std.proofs.lemmas.Bool.{cases_lt, le-ltb}
 use Rattle.std.specs.Option.{MatchOption}
 use Rattle.device.specs.Numbers.{Says}
@@ -69,6 +70,9 @@ module _ (s s' : State) (path row names : List ℕ) (given : Ok row ≡ row_of p
 
   pub row_room : (r : ℕ) → r < 16 → row_at r + length row ≤ length s.words
   row_room r lt = omega (arith, five)
+
+  pub row_long : (r : ℕ) → r < 16 → length (paste s.words (row_at r) row (length row)) ≡ length s.words
+  row_long r lt = length-paste s.words (row_at r) row (length row) (row_room r lt) (omega arith)
 
   pub named_free : (r : ℕ) → FirstRow (RowIs names row) None → FreeRow names (Some r) → s' ≡ reworded s (paste s.words (row_at r) row (length row)) → Named s path (Ok r) s'
   named_free r none free after = (

@@ -3,7 +3,7 @@ ghost use Rattle.std.specs.Prelude.{◌<◌, ◌≤◌, OnSome};
 ghost use Rattle.std.specs.Iterator.{at_most};
 
 // What is left of the input. Its lines come without their newlines; a newline at the very end begins no other line.
-#[derive(Drop)]
+#[derive(Clone, Copy)]
 pub struct Lines<'a> {
     rest: &'a [u8],
 }

@@ -1,5 +1,5 @@
 -- A run of words on its way into a module: stores one after the other, and then a settle.
-use Rattle.std.proofs.Common.{◌≡◌, ℕ, ◌+◌, ◌<◌, ◌≤◌, true, false, ◌⊎◌, List, ◌++◌, length, drop, set, replicate, Ok, Err, Result, sym, refl, ap, ◌∙◌, subst, inr, ⊎_elim, append-nil, zero-add, arith}
+use Rattle.std.proofs.Common.{◌≡◌, ℕ, ◌+◌, ◌<◌, ◌≤◌, true, false, ◌⊎◌, List, ◌++◌, length, drop, set, replicate, IsErrAnd, Ok, Err, Result, sym, refl, ap, ◌∙◌, subst, inl, inr, ⊎_elim, append-nil, zero-add, arith}
 use lib.Seq.{paste}
 use Rattle.std.proofs.lemmas.List.Edits.{length-paste, paste_more, paste_all}
 use Rattle.std.proofs.lemmas.List.{length-set, length-drop, length-replicate, get_or-drop, get_or-replicate, get_or-set_same, get_or-set_other, drop_all, ext_get_or}
@@ -9,12 +9,19 @@ use Rattle.device.proofs.Pasted.{paste_before, paste_inside, paste_outside, past
 use Rattle.device.proofs.Resting.{rests}
 use Rattle.device.specs.ModuleCalls.{Stored, Settled, Put}
 use Rattle.device.specs.Numbers.{Says}
-use Rattle.device.specs.Words.{Words, Sound, word}
+use Rattle.device.specs.Words.{Words, Sound, word, resting}
 use Rattle.device.specs.declared.Fault.{Fault}
 use Rattle.write_log.specs.Runs.{Dark, OneOf, Cut, Moves}
 
+-- words that are W's or X's, where those of X are W's or Y's
+further : (W X Y xs : List ℕ) (k : ℕ) → OneOf W X xs k → OneOf W Y X k → OneOf W Y xs k
+further W X Y xs k one on = ⊎_elim inl (λ e. ⊎_elim (λ a. inl (e ∙ a)) (λ b. inr (e ∙ b)) on) one
+
+same_words : (W Y : List ℕ) (xs ys : List ℕ) (k : ℕ) → xs ≡ ys → OneOf W Y ys k → OneOf W Y xs k
+same_words W Y xs ys k e one = subst (λ l. OneOf W Y l k) (sym e) one
+
 -- the refusal of a call in which power fails
-dark : (m : Words) (e : Fault) (i : ℕ) → m.lit ≡ false → Says e 22 2 i → Dark m e
+pub dark : (m : Words) (e : Fault) (i : ℕ) → m.lit ≡ false → Says e 22 2 i → Dark m e
 dark m e i out says = record { dark = out; number = ap (λ t. t.number) says; layer = ap (λ t. t.layer) says }
 
 -- what is found is W's or Y's where the current and the sure words are
@@ -32,6 +39,15 @@ pub record Storing (W : List ℕ) (start i : ℕ) (X : List ℕ) (m : Words) : T
   pub wide : length m.sure ≡ length W
   pub either : (k : ℕ) → OneOf W X m.sure k
   pub outside : (k : ℕ) → (k < start) ⊎ (start + i ≤ k) → word m.sure k ≡ word W k
+
+pub storing_none : (W : List ℕ) (start : ℕ) (m : Words) → m ≡ resting W → Storing W start 0 W m
+storing_none W start m rest = record {
+  lit = ap (λ x. x.lit) rest;
+  current = ap (λ x. x.current) rest;
+  wide = ap (λ x. length x.sure) rest;
+  either = λ k. inl (ap (λ x. word x.sure k) rest);
+  outside = λ k _. ap (λ x. word x.sure k) rest;
+}
 
 -- one word more
 module _ (W : List ℕ) (start i v : ℕ) (X : List ℕ) (m m' : Words) (s : Storing W start i X m) (lt : start + i < length W) (long : length X ≡ length W) (fresh : word X (start + i) ≡ word W (start + i)) where
@@ -140,3 +156,8 @@ module _ (W : List ℕ) (m m' : Words) where
   pub clear_moves : (i n : ℕ) → i ≡ length W → n ≡ length W → Clearing i m → Sound m' → (r : Result Unit Fault) → Settled m 0 n m' r → Moves W zeros m' r
   clear_moves i n end all s sound r done =
       subst (λ X. Moves W X m' r) whole (run_moves W 0 zeros m m' (omega (arith, count)) i (end ∙ sym count) s sound r (subst (λ k. Settled m 0 k m' r) (all ∙ sym count) done))
+
+-- the exit of a `?`
+pub moves_exit : (W X : List ℕ) (m : Words) (e : Fault) (r : Result Unit Fault) → IsErrAnd r (λ y. y ≡ e) → Cut W X m e → Moves W X m r
+moves_exit W X m e (Ok u) by failed = absurd by
+moves_exit W X m e (Err y) by failed = subst (λ z. Cut W X m z) (sym by) failed

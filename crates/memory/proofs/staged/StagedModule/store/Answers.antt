@@ -66,7 +66,7 @@ returns c =
     let lt : i < w = omega (arith, c.width.ensures, shorter_long xs ys, c.in_ok-check_word.ensures.within) in
     record {
       stored = done s c.draw.new.self after _ ys lasts (omega (arith, shorter_long xs ys), grind (arith, get_or-take))
-          record { current = stored_current xs ys i v lt; sure = inl (stored_sure xs ys i v) };
+          record { current = stored_current xs ys i v; sure = inl (stored_sure xs ys i v) };
       fails = ap not lasts;
       planned = after;
       unsure = stored_sure xs ys i v;
