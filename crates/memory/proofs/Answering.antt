@@ -1,18 +1,13 @@
 -- What a staged module answers, by its plan.
-use Rattle.std.proofs.Common.{◌≡◌, ℕ, true, false, not, eqb, List, ap, arith}
-use Rattle.std.proofs.lemmas.Bool.{and_parts}
+use Rattle.std.proofs.Common.{◌≡◌, ℕ, true, false, eqb, List, ap}
 use Rattle.device.specs.Numbers.{number_of, Says}
 use Rattle.device.specs.ModuleCalls.{Failed, Declined, Done}
 use Rattle.device.specs.declared.Fault.{Fault}
 use Rattle.memory.proofs.Drawn as plans
-use Rattle.memory.specs.Plans.{Plan, used_up, lasts, drawn}
+use Rattle.memory.specs.Plans.{lasts, drawn}
 use Rattle.memory.specs.Meanings.{plan, plan_of, staged, staged_of}
 use Rattle.memory.specs.declared.power.Power.{Power}
 use Rattle.memory.specs.declared.staged.Staged.{Staged}
-
--- power that lasts was on
-pub was_on : (p : Plan) → true ≡ lasts p → p.on ≡ true
-was_on p l = grind (arith, and_parts p.on (not (used_up p.left)))
 
 -- a refusal says that power failed where its number is 22
 pub says_failed : (e : Fault) (n i : ℕ) → Says e n 2 i → eqb (number_of e.refusal) 22 ≡ eqb n 22

@@ -7,8 +7,9 @@ use Rattle.device.specs.declared.Fault.{Fault}
 use Rattle.memory.specs.Plans.{Plan, used_up, lasts, drawn}
 use Rattle.memory.specs.Meanings.{staged}
 
-was_lit : (p : Plan) → true ≡ lasts p → p.on ≡ true
-was_lit p l = (and_parts p.on (not (used_up p.left)) (sym l)).0
+-- power that lasts was on
+pub was_on : (p : Plan) → true ≡ lasts p → p.on ≡ true
+was_on p l = (and_parts p.on (not (used_up p.left)) (sym l)).0
 
 -- a store or settle, by what power does in it
 module _ (p p' : Plan) (xs ys : List ℕ) (after : p' ≡ drawn p) where
@@ -25,8 +26,8 @@ module _ (p p' : Plan) (xs ys : List ℕ) (after : p' ≡ drawn p) where
 
   -- it lasts, and the call is declined
   pub not_done : (e : Fault) (n i : ℕ) (Reason : Type 0) → Says e n 2 i → true ≡ lasts p → Reason → Declined (staged p xs ys) (staged p' xs ys) e n i Reason
-  not_done e n i Reason says l why = record { lit = was_lit p l; lit_after = on_after ∙ sym l; reason = why; says = says; kept = record { current = refl; sure = refl } }
+  not_done e n i Reason says l why = record { lit = was_on p l; lit_after = on_after ∙ sym l; reason = why; says = says; kept = record { current = refl; sure = refl } }
 
   -- it lasts, and the call is done, whatever the slices then hold
   pub done : (xs' ys' : List ℕ) (Asked Effect : Type 0) → true ≡ lasts p → Asked → Effect → Done (staged p xs ys) (staged p' xs' ys') Asked Effect
-  done xs' ys' Asked Effect l asked effect = record { lit = was_lit p l; lit_after = on_after ∙ sym l; asked = asked; effect = effect }
+  done xs' ys' Asked Effect l asked effect = record { lit = was_on p l; lit_after = on_after ∙ sym l; asked = asked; effect = effect }

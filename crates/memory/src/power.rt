@@ -44,6 +44,7 @@ impl Power {
         ensures declined { IfErr result (λ e. Says e 22 2 i) }
     {
         self.check(i)?;
+        // By its index: taken by `get`, a count took a caller's loop up to four times the time.
         if self.life >= self.counts.len() {
             return Ok(()); // no life past the counts is cut
         }
